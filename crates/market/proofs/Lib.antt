@@ -1,0 +1,4 @@
+pub mod Clocks
+pub mod Counts
+pub mod Dates
+pub mod Tables
