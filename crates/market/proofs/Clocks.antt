@@ -15,7 +15,7 @@ use Rattle.market.specs.declared.clock.ClockPlace.{ClockPlace}
 use Rattle.market.specs.declared.clock.ClockPlace.the-variants.{Settlement, Utc}
 use Rattle.market.specs.declared.clock.DayKind.{DayKind}
 use Rattle.market.specs.declared.clock.DayKind.the-variants.{Winter, Summer, SpringChange, AutumnChange}
-use Rattle.market.specs.Clock.{periodsOf, HasPeriod, HasUtc, SameTime, Converted, ClockLaws}
+use Rattle.market.specs.Clock.{HasPeriod, HasUtc, SameTime, Converted, ClockLaws}
 
 one-utc : (k : DayKind) (p u v : ℕ) (d e : UtcDate) → SameTime k p d u → SameTime k p e v → (d ≡ e) × (u ≡ v)
 one-utc Winter p u v TheDate TheDate a b = (refl, omega arith)

@@ -1,9 +1,9 @@
 -- The count of days goes up with the date.
 use Prim.Native.Nat.{ℕ, zero, suc, _≤_, _<_, _+_, _-_}
-use mathlib.Core.Path.{_≡_, refl, ap, sym, subst, _∙_}
-use mathlib.Core.Logic.{_⊎_, inl, inr, ⊎-elim}
+use mathlib.Core.Path.{_≡_, ap}
+use mathlib.Core.Logic.{⊎-elim}
 use native.Mathlib.Omega.{arith}
-use Rattle.std.proofs.shelf.Tests.{cases-lt, cases-eq, cases-order}
+use Rattle.std.proofs.shelf.Tests.{cases-eq}
 use Rattle.market.specs.Calendar.{daysIn, daysOfMonths, daysOfYears, dayCount}
 
 -- a count that never falls from one number to the next never falls

@@ -1,7 +1,7 @@
 -- Dates in the count of days: how two of them compare, and that no two have the same day.
 use Prim.Native.Nat.{ℕ, suc, _≤_, _<_, _+_, _-_}
-use mathlib.Core.Path.{_≡_, refl, ap, sym, subst, _∙_}
-use mathlib.Core.Logic.{_⊎_, inl, inr, ⊎-elim}
+use mathlib.Core.Path.{_≡_, ap, sym}
+use mathlib.Core.Logic.{⊎-elim}
 use native.Mathlib.Omega.{arith}
 use Rattle.std.specs.declared.cmp.Ordering.{Ordering}
 use Rattle.std.specs.declared.cmp.Ordering.the-variants.{Less, Equal, Greater}
@@ -12,7 +12,7 @@ use Rattle.std.proofs.shelf.Tests.{cases-lt, cases-order}
 use Rattle.std.proofs.shelf.Ways.{tells}
 use Rattle.market.specs.declared.refusal.Refusal.{Refusal}
 use Rattle.market.specs.declared.date.Date.{Date}
-use Rattle.market.specs.Calendar.{daysIn, daysOfMonths, daysOfYears, dayCount}
+use Rattle.market.specs.Calendar.{daysIn, daysOfYears, dayCount}
 use Rattle.market.specs.Dates.{countOf, Dated, DatedBefore, OneDateADay}
 use Rattle.market.proofs.Counts.{months-to, years-to, earlier-month, earlier-year}
 

@@ -1,10 +1,10 @@
 -- The calendar, over plain numbers: which dates there are, how days are counted, and on which days the clocks change.
-use Prim.Native.Nat.{ℕ, zero, suc, _≤_, _<_, _+_, _-_, _*_, _%_}
+use Prim.Native.Nat.{ℕ, zero, suc, _≤_, _<_, _+_, _-_, _%_}
 use mathlib.Core.Path.{_≡_}
-use mathlib.Core.Bool.{Bool, true, false, cond, not, _&&_, _||_}
+use mathlib.Core.Bool.{Bool, cond, not, _&&_, _||_}
 use mathlib.Core.Logic.{_⊎_}
 use mathlib.Core.List.{List}
-use lib.Dec.{eqb, leb, ltb}
+use lib.Dec.{eqb, ltb}
 use lib.ListN.{getD}
 use Rattle.market.specs.declared.clock.DayKind.{DayKind}
 use Rattle.market.specs.declared.clock.DayKind.the-variants.{Winter, Summer, SpringChange, AutumnChange}

@@ -1,5 +1,5 @@
 -- The clock time at which a Settlement Period ends.
-use Prim.Native.Nat.{ℕ, _≤_, _<_, _+_, _-_, _*_, _%_}
+use Prim.Native.Nat.{ℕ, _<_, _+_, _-_, _*_, _%_}
 use mathlib.Core.Path.{_≡_}
 use mathlib.Core.Bool.{cond}
 use lib.Dec.{leb}

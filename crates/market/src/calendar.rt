@@ -1,9 +1,8 @@
 // Dates, and the days on which the clocks change.
-ghost use mathlib.Core.Bool.{true};
 ghost use mathlib.Core.Path.{_≡_};
 ghost use Prim.Native.Nat.{_≤_, _<_};
 ghost use Rattle.std.specs.Orderings.{Ranked};
-ghost use Rattle.market.specs.Calendar.{leap, daysIn, dayCount, LastSunday, LastSundays, kindOf, KindOn};
+ghost use Rattle.market.specs.Calendar.{leap, daysIn, LastSundays, kindOf, KindOn};
 ghost use Rattle.market.specs.Dates.{Dated, DatedBefore, countOf, OneDateADay, ChangesOn};
 use crate::clock::DayKind;
 use crate::date::Date;
@@ -71,6 +70,34 @@ fn days_in(year: u16, month: u8) -> u8
     }
 }
 
+// The days on which the clocks of one year change.
+#[derive(Clone, Copy)]
+struct Changes {
+    spring: Date,
+    autumn: Date,
+}
+
+// The change days of a year that the table has.
+fn changes_in(year: u16) -> Changes
+    requires { ⌜ (2024 ≤ year) × (year ≤ 2055) ⌝ }
+    ensures spring { λ r. ⌜ ChangesOn year 3 (r .spring) ⌝ }
+    ensures autumn { λ r. ⌜ ChangesOn year 10 (r .autumn) ⌝ }
+{
+    let table = change_days();
+    let (march, october) = table[(year - 2024) as usize];
+    let spring = Date {
+        year,
+        month: 3,
+        day: march,
+    };
+    let autumn = Date {
+        year,
+        month: 10,
+        day: october,
+    };
+    Changes { spring, autumn }
+}
+
 impl Date {
     // The date of these numbers, if there is one in the years 2024 to 2055.
     pub fn new(year: u16, month: u8, day: u8) -> Result<Date, Refusal>
@@ -126,32 +153,4 @@ impl Date {
             _ => DayKind::Winter,
         }
     }
-}
-
-// The days on which the clocks of one year change.
-#[derive(Clone, Copy)]
-struct Changes {
-    spring: Date,
-    autumn: Date,
-}
-
-// The change days of a year that the table has.
-fn changes_in(year: u16) -> Changes
-    requires { ⌜ (2024 ≤ year) × (year ≤ 2055) ⌝ }
-    ensures spring { λ r. ⌜ ChangesOn year 3 (r .spring) ⌝ }
-    ensures autumn { λ r. ⌜ ChangesOn year 10 (r .autumn) ⌝ }
-{
-    let table = change_days();
-    let (march, october) = table[(year - 2024) as usize];
-    let spring = Date {
-        year,
-        month: 3,
-        day: march,
-    };
-    let autumn = Date {
-        year,
-        month: 10,
-        day: october,
-    };
-    Changes { spring, autumn }
 }

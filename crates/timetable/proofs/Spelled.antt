@@ -1,6 +1,6 @@
 -- A date's text, digit by digit.
 use Prim.Native.Nat.{ℕ, _≤_, _<_, _+_, _*_, _/_, _%_}
-use mathlib.Core.Path.{_≡_, refl, ap, sym, _∙_}
+use mathlib.Core.Path.{_≡_, refl, ap, _∙_}
 use mathlib.Core.Logic.{⊎-elim}
 use mathlib.Core.List.{List, [], _∷_, _++_}
 use native.Mathlib.Omega.{arith}

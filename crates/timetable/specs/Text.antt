@@ -1,7 +1,7 @@
 -- How dates, times and numbers are written.
 use Prim.Native.Nat.{ℕ}
 use mathlib.Core.Bool.{cond}
-use mathlib.Core.List.{List, [], _∷_, _++_}
+use mathlib.Core.List.{List, _++_}
 use lib.Chars.{codes}
 use lib.Dec.{ltb}
 use Rattle.std.specs.Written.{decimal}

@@ -1,7 +1,7 @@
 -- A date as it is typed.
-use Prim.Native.Nat.{ℕ, _<_, _+_, _*_, _/_, _%_}
+use Prim.Native.Nat.{ℕ, _<_, _+_, _/_, _%_}
 use mathlib.Core.Path.{_≡_}
-use mathlib.Core.List.{List, [], _∷_, _++_}
+use mathlib.Core.List.{List, [], _∷_}
 use Rattle.std.specs.declared.option.Option.{Option}
 use Rattle.std.specs.declared.option.Option.the-variants.{Some, None}
 use Rattle.market.specs.declared.date.Date.{Date}

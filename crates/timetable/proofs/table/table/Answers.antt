@@ -1,6 +1,4 @@
-use mathlib.Core.Path.{_≡_, sym, ap, _∙_}
 use borrow.Author.Needs.{needs}
-use Rattle.market.specs.Clock.{periodsOf}
 use Rattle.timetable.proofs.Written.{lines-more, lines-all}
 use Rattle.timetable.proofs.table.table.Needs as need
 
