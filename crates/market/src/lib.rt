@@ -3,5 +3,4 @@ pub mod calendar;
 pub mod clock;
 pub mod clock_time;
 pub mod date;
-pub mod known;
 pub mod refusal;

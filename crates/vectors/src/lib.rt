@@ -2,6 +2,12 @@
 #[cfg(test)]
 mod calendar;
 #[cfg(test)]
+mod classes;
+#[cfg(test)]
 mod clock;
+#[cfg(test)]
+mod deliveries;
+#[cfg(test)]
+mod records;
 #[cfg(test)]
 mod words;
