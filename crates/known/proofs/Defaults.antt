@@ -2,7 +2,7 @@
 use mathlib.Core.Path.{_≡_, refl, sym, subst}
 use mathlib.Core.Bool.{true}
 use Rattle.std.specs.declared.option.Option.the-variants.{Some}
-use Rattle.readings.specs.declared.quality.Quality.the-variants.{E8}
+use Rattle.qualities.specs.declared.quality.Quality.the-variants.{E8}
 use Rattle.meters.specs.declared.row.Segment.{Segment}
 use Rattle.meters.specs.declared.row.Segment.the-variants.{Smart}
 use Rattle.meters.specs.declared.row.Quantity.{Quantity}

@@ -5,7 +5,7 @@ use Rattle.std.specs.declared.option.Option.the-variants.{Some, None}
 use Rattle.market.specs.declared.clock.UtcDate.the-variants.{DateBefore}
 use Rattle.market.specs.Clock.{periodsOf, SameTime}
 use Rattle.market.specs.Calendar.{Exists, kindOf}
-use Rattle.readings.specs.declared.quality.Quality.the-variants.{A, E8}
+use Rattle.qualities.specs.declared.quality.Quality.the-variants.{A, E8}
 use Rattle.readings.specs.declared.reading.Reading.{Reading}
 use Rattle.readings.specs.Order.{Ahead}
 use Rattle.meters.specs.declared.row.Segment.the-variants.{Smart}

@@ -1,3 +1,4 @@
+pub mod Below
 pub mod Clocks
 pub mod Counts
 pub mod Dates

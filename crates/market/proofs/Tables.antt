@@ -1,26 +1,15 @@
--- The rule of a table, proved by one test over all of its entries, which antt computes.
-use Prim.Native.Nat.{ℕ, zero, suc, _≤_, _<_, _+_, _-_, _%_}
-use mathlib.Core.Path.{_≡_, subst, sym}
+-- The rule of the table of change days, proved by one test over all of its entries, which antt computes.
+use Prim.Native.Nat.{ℕ, _≤_, _+_, _-_, _%_}
+use mathlib.Core.Path.{_≡_, subst}
 use mathlib.Core.Bool.{Bool, true, _&&_}
-use mathlib.Core.Logic.{⊎-elim}
 use mathlib.Core.List.{List}
 use native.Mathlib.Omega.{arith}
 use lib.Dec.{eqb, leb, ltb}
 use lib.ListN.{getD}
-use Rattle.std.proofs.shelf.Tests.{and-parts, cases-eq}
+use Rattle.std.proofs.shelf.Tests.{and-parts}
 use Rattle.std.proofs.shelf.Ways.{tells}
 use Rattle.market.specs.Calendar.{daysIn, dayCount, LastSunday, LastSundays}
-
--- the test passes at every number below n
-abbrev pub allBelow : (ℕ → Bool) → ℕ → Bool
-allBelow f zero = true
-allBelow f (suc n) = f n && allBelow f n
-
-pub at-below : (f : ℕ → Bool) (n k : ℕ) → allBelow f n ≡ true → k < n → f k ≡ true
-at-below f zero k t h = absurd (omega arith)
-at-below f (suc n) k t h =
-    let parts = and-parts (f n) (allBelow f n) t in
-    ⊎-elim (λ e. subst (λ i. f i ≡ true) (sym e) (parts .0)) (λ ne. at-below f n k (parts .1) (omega arith)) (cases-eq k n)
+use Rattle.market.proofs.Below.{allBelow, at-below}
 
 -- whether d is the last Sunday of a month
 abbrev isLastSunday : ℕ → ℕ → ℕ → Bool

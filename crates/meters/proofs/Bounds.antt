@@ -9,7 +9,7 @@ use lib.Dec.{leb}
 use Rattle.std.specs.declared.option.Option.{Option}
 use Rattle.std.specs.declared.option.Option.the-variants.{Some, None}
 use Rattle.std.proofs.shelf.Tests.{and-parts, leb-true}
-use Rattle.readings.specs.declared.quality.Quality.{Quality}
+use Rattle.qualities.specs.declared.quality.Quality.{Quality}
 use Rattle.meters.specs.declared.row.Segment.{Segment}
 use Rattle.meters.specs.declared.row.Quantity.{Quantity}
 use Rattle.meters.specs.declared.row.Connection.{Connection}

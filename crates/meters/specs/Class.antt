@@ -5,9 +5,9 @@ use mathlib.Core.List.{List, [], _∷_}
 use lib.Dec.{eqb, leb}
 use Rattle.std.specs.declared.option.Option.{Option}
 use Rattle.std.specs.declared.option.Option.the-variants.{Some, None}
-use Rattle.readings.specs.declared.quality.Quality.{Quality}
-use Rattle.readings.specs.declared.quality.Quality.the-variants.{A, A1, A2, A3, AAE1, AAE2, AAE3, E, E1, E2, E3, E4, E5, E6, E7, E8, EA1, EA2, EA3, EA4, EA5, EA6, EA7, EA8, EA9, EA10, EA11, EA12, EAE1, EAE2, EAE3, ZE, ZE1, ZE2, ZE3}
-use Rattle.readings.specs.Quality.{numberOf}
+use Rattle.qualities.specs.declared.quality.Quality.{Quality}
+use Rattle.qualities.specs.declared.quality.Quality.the-variants.{A, A1, A2, A3, AAE1, AAE2, AAE3, E, E1, E2, E3, E4, E5, E6, E7, E8, EA1, EA2, EA3, EA4, EA5, EA6, EA7, EA8, EA9, EA10, EA11, EA12, EAE1, EAE2, EAE3, ZE, ZE1, ZE2, ZE3}
+use Rattle.qualities.specs.Quality.{numberOf}
 use Rattle.meters.specs.declared.row.Segment.{Segment}
 use Rattle.meters.specs.declared.row.Segment.the-variants.{Smart, Advanced, Unmetered}
 use Rattle.meters.specs.declared.row.Quantity.{Quantity}

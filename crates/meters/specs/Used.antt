@@ -12,8 +12,8 @@ use Rattle.std.specs.declared.result.Result.the-variants.{Ok, Err}
 use Rattle.std.specs.Options.{isSome}
 use Rattle.market.specs.declared.refusal.Refusal.{Refusal}
 use Rattle.market.specs.Lowest.{Lowest, turnedDown}
-use Rattle.readings.specs.declared.quality.Quality.{Quality}
-use Rattle.readings.specs.declared.quality.Quality.the-variants.{A, A1, A2, A3, AAE1, AAE2, AAE3, E, E2, E6, E8, EA12, EAE1, ZE1}
+use Rattle.qualities.specs.declared.quality.Quality.{Quality}
+use Rattle.qualities.specs.declared.quality.Quality.the-variants.{A, A1, A2, A3, AAE1, AAE2, AAE3, E, E2, E6, E8, EA12, EAE1, ZE1}
 use Rattle.readings.specs.declared.reading.Reading.{Reading}
 use Rattle.meters.specs.declared.row.Segment.{Segment}
 use Rattle.meters.specs.declared.row.Segment.the-variants.{Smart, Advanced, Unmetered}

@@ -5,7 +5,7 @@ use crate::making::can_connect;
 use crate::row::Connection;
 use crate::row::Quantity;
 use crate::row::Segment;
-use readings::quality::Quality;
+use qualities::quality::Quality;
 
 impl Connection {
     // How far the connection is from whole current.

@@ -9,7 +9,7 @@ use crate::row::Quantity;
 use crate::row::Segment;
 use crate::row::Status;
 use market::refusal::Refusal;
-use readings::quality::Quality;
+use qualities::quality::Quality;
 use readings::reading::Reading;
 
 // What counts for a meter in a period: a volume in Wh and its quality.

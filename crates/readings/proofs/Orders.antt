@@ -5,9 +5,10 @@ use native.Mathlib.Omega.{arith}
 use Rattle.std.proofs.shelf.Tests.{cases-order}
 use Rattle.std.proofs.shelf.Ways.{tells}
 use Rattle.readings.specs.declared.reading.Reading.{Reading}
-use Rattle.readings.specs.Quality.{numberOf}
+use Rattle.qualities.specs.Quality.{numberOf}
 use Rattle.readings.specs.Order.{Ahead, TotalOrder}
-use Rattle.readings.proofs.Same.{same-quality, same-reading}
+use Rattle.qualities.proofs.Same.{same-quality}
+use Rattle.readings.proofs.Same.{same-reading}
 
 comparable : (a b : Reading) → (a ≡ b) ⊎ (Ahead a b ⊎ Ahead b a)
 comparable a b = ⊎-elim

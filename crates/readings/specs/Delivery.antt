@@ -8,8 +8,8 @@ use Rattle.market.specs.declared.refusal.Refusal.{Refusal}
 use Rattle.market.specs.Lowest.{Lowest, turnedDown}
 use Rattle.readings.specs.declared.reading.Reading.{Reading}
 use Rattle.readings.specs.declared.delivery.Delivery.{Delivery}
-use Rattle.readings.specs.Quality.{numberOf}
-use Rattle.readings.specs.Limits.{latestStamp, largestVolume, IsZero}
+use Rattle.qualities.specs.Quality.{IsZero, numberOf}
+use Rattle.readings.specs.Limits.{latestStamp, largestVolume}
 
 -- the faults of a delivery, by number:
 -- 9, its stamp is outside its limits or there is no such quality;

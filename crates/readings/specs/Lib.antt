@@ -1,4 +1,4 @@
-pub mod Quality
 pub mod Limits
 pub mod Delivery
 pub mod Order
+pub mod Numbers

@@ -3,7 +3,7 @@ use Prim.Native.Nat.{_<_}
 use mathlib.Core.Path.{_≡_}
 use mathlib.Core.Logic.{_⊎_}
 use Rattle.readings.specs.declared.reading.Reading.{Reading}
-use Rattle.readings.specs.Quality.{numberOf}
+use Rattle.qualities.specs.Quality.{numberOf}
 
 -- a is ahead of b: it has the later stamp; at equal stamps the larger volume; at equal volumes the lower quality number
 abbrev pub Ahead : Reading → Reading → Type 0

@@ -1,8 +1,10 @@
 // Deliveries: readings as they are handed over, any numbers, and what is made of them.
+ghost use mathlib.Core.Path.{_≡_};
 ghost use Rattle.readings.specs.Delivery.{Accepted};
-use crate::quality::Quality;
+ghost use Rattle.readings.specs.Numbers.{readingOf};
 use crate::reading::Reading;
 use market::refusal::Refusal;
+use qualities::quality::Quality;
 
 // The latest stamp of a reading, in seconds since 1970.
 pub const LATEST_STAMP: u64 = 4_294_967_295;
@@ -40,5 +42,19 @@ impl Delivery {
             volume: self.volume as u32,
             quality,
         })
+    }
+}
+
+impl Reading {
+    // The reading of three numbers, if they make one.
+    pub fn from_numbers(stamp: u64, volume: u64, quality: u8) -> Option<Reading>
+        ensures { λ r. ⌜ r ≡ readingOf stamp volume quality ⌝ }
+    {
+        let delivery = Delivery {
+            stamp,
+            volume,
+            quality,
+        };
+        delivery.accept(LARGEST_VOLUME).ok()
     }
 }

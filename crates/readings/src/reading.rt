@@ -1,9 +1,9 @@
 // A reading, and nothing that is none.
 ghost use mathlib.Core.Path.{_≡_};
 ghost use Prim.Native.Nat.{_≤_};
-ghost use Rattle.readings.specs.Quality.{numberOf};
-ghost use Rattle.readings.specs.Limits.{latestStamp, largestVolume, IsZero};
-use crate::quality::Quality;
+ghost use Rattle.qualities.specs.Quality.{IsZero, numberOf};
+ghost use Rattle.readings.specs.Limits.{latestStamp, largestVolume};
+use qualities::quality::Quality;
 
 // What a meter used in a period of half an hour, as a data service told it. Every value of this type keeps the limits of a reading:
 // its stamp (seconds since 1970), its volume (Wh), and that a zero quality comes with no volume.

@@ -4,7 +4,7 @@ use meters::class::consumption_class;
 use meters::row::Connection;
 use meters::row::Quantity;
 use meters::row::Segment;
-use readings::quality::Quality;
+use qualities::quality::Quality;
 use std::test::*;
 
 // The letters of the published table.

@@ -1,7 +1,7 @@
 // Readings at their limits, and which of two stands.
 use market::refusal::RefusalDebug;
+use qualities::quality::Quality;
 use readings::delivery::Delivery;
-use readings::quality::Quality;
 use std::test::*;
 
 // What comes of a delivery: 0 where it is accepted, or the number of its refusal.

@@ -6,8 +6,8 @@ use meters::row::MeterRow;
 use meters::row::Quantity;
 use meters::row::Segment;
 use meters::row::Status;
+use qualities::quality::Quality;
 use readings::delivery::Delivery;
-use readings::quality::Quality;
 use std::test::*;
 
 const SMART: MeterRow = MeterRow {

@@ -1,8 +1,7 @@
 // The quality indicators of settlement data.
 ghost use mathlib.Core.Path.{_≡_};
 ghost use Rattle.std.specs.Orderings.{Decides};
-ghost use Rattle.readings.specs.Limits.{IsZero};
-ghost use Rattle.readings.specs.Quality.{numberOf, textOf, ByNumber, ByText};
+ghost use Rattle.qualities.specs.Quality.{IsZero, numberOf, textOf, ByNumber, ByText};
 
 // How a volume came about: measured (A and AAE), estimated (E, EA and EAE) or an estimate of zero (ZE). They are numbered from 0 in
 // this order.

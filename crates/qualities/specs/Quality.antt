@@ -1,12 +1,15 @@
 -- The quality indicators: their numbers and their names.
 use Prim.Native.Nat.{ℕ, _≤_}
 use mathlib.Core.Path.{_≡_}
-use mathlib.Core.List.{List}
+use mathlib.Core.Bool.{cond}
+use mathlib.Core.List.{List, [], _∷_}
 use lib.Chars.{codes}
+use lib.Dec.{ltb}
+use lib.ListN.{getD}
 use Rattle.std.specs.declared.option.Option.{Option}
 use Rattle.std.specs.declared.option.Option.the-variants.{Some, None}
-use Rattle.readings.specs.declared.quality.Quality.{Quality}
-use Rattle.readings.specs.declared.quality.Quality.the-variants.{A, A1, A2, A3, AAE1, AAE2, AAE3, E, E1, E2, E3, E4, E5, E6, E7, E8, EA1, EA2, EA3, EA4, EA5, EA6, EA7, EA8, EA9, EA10, EA11, EA12, EAE1, EAE2, EAE3, ZE, ZE1, ZE2, ZE3}
+use Rattle.qualities.specs.declared.quality.Quality.{Quality}
+use Rattle.qualities.specs.declared.quality.Quality.the-variants.{A, A1, A2, A3, AAE1, AAE2, AAE3, E, E1, E2, E3, E4, E5, E6, E7, E8, EA1, EA2, EA3, EA4, EA5, EA6, EA7, EA8, EA9, EA10, EA11, EA12, EAE1, EAE2, EAE3, ZE, ZE1, ZE2, ZE3}
 
 -- the number of a quality
 abbrev pub numberOf : Quality → ℕ
@@ -84,6 +87,14 @@ textOf ZE1 = codes "ZE1"
 textOf ZE2 = codes "ZE2"
 textOf ZE3 = codes "ZE3"
 
+-- the qualities in the order of their numbers
+abbrev pub qualities : List Quality
+qualities = A ∷ A1 ∷ A2 ∷ A3 ∷ AAE1 ∷ AAE2 ∷ AAE3 ∷ E ∷ E1 ∷ E2 ∷ E3 ∷ E4 ∷ E5 ∷ E6 ∷ E7 ∷ E8 ∷ EA1 ∷ EA2 ∷ EA3 ∷ EA4 ∷ EA5 ∷ EA6 ∷ EA7 ∷ EA8 ∷ EA9 ∷ EA10 ∷ EA11 ∷ EA12 ∷ EAE1 ∷ EAE2 ∷ EAE3 ∷ ZE ∷ ZE1 ∷ ZE2 ∷ ZE3 ∷ []
+
+-- the quality of a number, as a function
+abbrev pub qualityOf : ℕ → Option Quality
+qualityOf n = cond (ltb n 35) (Some (getD qualities n A)) None
+
 -- the quality of a number; there is none from 35 on
 abbrev pub ByNumber : ℕ → Option Quality → Type 0
 ByNumber n (Some q) = numberOf q ≡ n
@@ -93,3 +104,7 @@ ByNumber n None = 35 ≤ n
 abbrev pub ByText : List ℕ → Option Quality → Type 0
 ByText text (Some q) = text ≡ textOf q
 ByText text None = (q : Quality) → text ≡ textOf q → ⊥
+
+-- the qualities that say that nothing was used, by number: ZE, ZE1, ZE2 and ZE3 are the last four
+abbrev pub IsZero : ℕ → Type 0
+IsZero n = 31 ≤ n

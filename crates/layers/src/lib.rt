@@ -1,0 +1,3 @@
+// Stores that are laid over other stores.
+pub mod joined;
+pub mod window;

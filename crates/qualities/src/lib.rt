@@ -1,0 +1,2 @@
+// The qualities of settlement data.
+pub mod quality;

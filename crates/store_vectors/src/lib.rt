@@ -1,0 +1,5 @@
+// Worked cases of the stores, run as tests.
+#[cfg(test)]
+mod layers;
+#[cfg(test)]
+mod memory;
