@@ -107,6 +107,7 @@ fn to_settlement(
 }
 
 // The same half hour by the other clock, or none where a UTC period lies outside the day.
+#[tactic(auto, using(crate::proofs::Clocks::clock_laws))]
 pub fn convert(kind: DayKind, place: ClockPlace) -> Result<Option<ClockPlace>, Refusal>
     ensures value { Converted kind place result }
     ensures laws { ClockLaws }
