@@ -1,4 +1,6 @@
 // dayclock: for each date among its arguments, the kind of Settlement Day it is and its periods by both clocks.
+#![tactic(auto)]
+
 use std::alloc::{AllocError, Global};
 use std::env::{Env, FillError};
 use std::io;
@@ -43,7 +45,7 @@ fn called(heap: Global, place: usize, word: &[u8]) -> Result<String, AllocError>
 
 // Answers a word that is no date: complains of it, unless it asks for help.
 fn answer_other(rt: &HostRuntime, place: usize, word: &[u8], said: Said) -> io::Result<Said> {
-    if word == b"--help" {
+    if word == b"--help".as_slice() {
         print_usage(rt)?;
         return Ok(Said {
             answers: true,

@@ -1,5 +1,7 @@
 // Values of the reports that are known from published documents: each computed by the engine's own functions, and all of them as one
 // theorem about the definitions that the contracts of these functions cite.
+#![tactic(auto)]
+
 ghost use Rattle.std.specs.Prelude.{◌≡◌, true};
 ghost use Rattle.known_reports.specs.Values.{ReportedValues};
 

@@ -1,8 +1,8 @@
 -- A record is lawful where the test says so.
-use Rattle.std.proofs.Common.{◌≡◌, true, false, ◌&&◌, ⊎_elim}
+use Rattle.std.proofs.Common.{◌≡◌, true, false, ⊎_elim}
 use Rattle.std.proofs.lemmas.Bool.{and_parts, and_from, cases_Bool}
 use Rattle.meters.specs.declared.row.MeterRow.{MeterRow}
-use Rattle.meters.specs.Lawful.{up_to, up_to_or_none, connects, Lawful, is_lawful}
+use Rattle.meters.specs.Lawful.{Lawful, is_lawful}
 
 pub lawful_true : (m : MeterRow) → Lawful m → is_lawful m ≡ true
 unfolding is_lawful

@@ -1,3 +1,5 @@
 // A store of one UTC date in lent bytes.
+#![tactic(auto)]
+
 pub mod packed_store;
 mod place;

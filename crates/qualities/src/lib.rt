@@ -1,2 +1,4 @@
 // The qualities of settlement data.
+#![tactic(auto)]
+
 pub mod quality;

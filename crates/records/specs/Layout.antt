@@ -1,5 +1,5 @@
 -- How readings lie in records: 48 to a meter, one a period.
-use Rattle.std.specs.Prelude.{ℕ, ◌+◌, ◌*◌, ◌/◌, cond, List, ◌++◌, length, drop, replicate, None, Option, slice_index_or}
+use Rattle.std.specs.Prelude.{ℕ, ◌*◌, ◌/◌, cond, List, ◌++◌, length, drop, replicate, None, Option, slice_index_or}
 use Rattle.readings.specs.declared.reading.Reading.{Reading}
 use Rattle.stores.specs.Grid.{Grid}
 use Rattle.stores.specs.Date.{meters_of, place_of, is_inside}

@@ -1,4 +1,6 @@
 // Worked cases of the reports and the totals, run as tests.
+#![tactic(auto)]
+
 #[cfg(test)]
 mod amounts;
 #[cfg(test)]

@@ -1,4 +1,6 @@
 // What a call on a day is judged by: when it is turned down, and by which number.
+#![tactic(auto)]
+
 mod amending;
 pub mod call;
 mod delivering;

@@ -1,4 +1,6 @@
 // A Settlement Day and its calls.
+#![tactic(auto)]
+
 mod acts;
 pub mod calls;
 mod changes;

@@ -1,4 +1,6 @@
 // Worked cases of the stores, run as tests.
+#![tactic(auto)]
+
 #[cfg(test)]
 mod layers;
 #[cfg(test)]

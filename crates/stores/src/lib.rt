@@ -1,4 +1,6 @@
 // Where readings lie: what a store is, and the places of a UTC date.
+#![tactic(auto)]
+
 pub mod date;
 pub mod period;
 pub mod store;

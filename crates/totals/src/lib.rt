@@ -1,4 +1,6 @@
 // Totals: what a report is, and the one table of its totals.
+#![tactic(auto)]
+
 pub mod entries;
 pub mod entry;
 pub mod exactness;

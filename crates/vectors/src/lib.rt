@@ -1,4 +1,6 @@
 // Worked cases of the other crates, run as tests. The values come from calendars and published documents, or were worked out by hand.
+#![tactic(auto)]
+
 #[cfg(test)]
 mod calendar;
 #[cfg(test)]

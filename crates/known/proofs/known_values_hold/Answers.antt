@@ -14,5 +14,5 @@ known_values = record {
   unused = search rules;
 }
 
-pub returns-then-default-has-class : goal.returns-then-default-has-class
-returns-then-default-has-class c = record { theorem = known_values; value = search rules }
+pub returns-then-default_has_class : goal.returns-then-default_has_class
+returns-then-default_has_class c = record { theorem = known_values; value = search rules }

@@ -7,5 +7,5 @@ pub returns : goal.returns
 returns c =
     let at = c.args.at in
     let nine : (at + 9) - at ≡ 9 = omega arith in
-    let copied : c.copy-from-slice.new.self ≡ nine_bytes c.args.reading = search rules in
+    let copied : c.copy_from_slice.new.self ≡ nine_bytes c.args.reading = search rules in
     simp (nine, copied, drop-drop)

@@ -11,7 +11,7 @@ returns-in-Some c =
     let p = c.args.period.0 in
     let r = c.args.reading in
     let found = found_place (is_inside (meters_in (length bs)) m p) c.in-Some.place (place_of m p) c.in-Some.ensures.value in
-    let after : c.write-place.new.bytes ≡ written bs (first_byte m p) r = cc in
+    let after : c.write_place.new.bytes ≡ written bs (first_byte m p) r = cc in
     record {
       grid = record {
         taken = λ inside. (refl, λ i j. ap (λ (xs : List ℕ). grid_in xs i j) after ∙ grid_written bs m p r found.0 i j);
