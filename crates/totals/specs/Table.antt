@@ -1,6 +1,6 @@
 -- The table of totals.
 use Rattle.std.specs.Prelude.{◌≡◌, ℕ, ◌+◌, ◌-◌, ◌*◌, ◌<◌, ◌≤◌, List, length, Ok, Err, Result, slice_index_or, slice_set}
-use Rattle.std.specs.Borrow.{Bor}
+use Rattle.std.specs.Borrow.{MutBor}
 use Rattle.market.specs.declared.refusal.Refusal.{Refusal}
 use Rattle.market.specs.Refusal.{number_of}
 use Rattle.totals.specs.declared.totals.Totals.{Totals}
@@ -19,7 +19,7 @@ abbrev pub total_at : {M : Type 0} → M → ℕ → List M → ℕ → ℕ → 
 total_at zero places cells p q = slice_index_or cells (cell_of places p q) zero
 
 -- a table over the amounts behind a reference, which are as they were; or, where they are no table, those amounts again, with 1
-abbrev pub Made : {M : Type 0} → Bor (List M) → ℕ → ℕ → Result (Totals M) (NoTable M) → Type 0
+abbrev pub Made : {M : Type 0} → MutBor (List M) → ℕ → ℕ → Result (Totals M) (NoTable M) → Type 0
 Made cells periods places (Ok t) = (t.cells ≡ cells) × (t.periods ≡ periods) × (t.places ≡ places)
 Made cells periods places (Err e) =
     (e.cells ≡ cells) × (number_of e.refusal ≡ 1) × ((length cells.now ≡ periods * places) × (places ≤ 4096) → ⊥)

@@ -8,7 +8,7 @@ use crate::totals::Totals;
 
 // Adds what an entry brings to the totals of a period. A place that the table lacks has no total to change.
 pub fn add_entry<R: Report>(table: &mut Totals<'_, R::Amount>, report: &R, period: u8, entry: Entry)
-    ensures { Shifted R.Amount.Amount.algebra period (λ q total. R.Amount.Amount.algebra.plus total (part_of R.Amount.Amount.algebra (rules report.now) entry q)) table.old table.new }
+    ensures { Shifted R.Amount.algebra period (λ q total. R.Amount.algebra.plus total (part_of R.Amount.algebra (R.rules report.now) entry q)) table.old table.new }
 {
     if let Some((place, amount)) = named(report, entry) {
         let _ = table.add(period, place, amount);
@@ -22,7 +22,7 @@ pub fn take_entry<R: Report>(
     period: u8,
     entry: Entry,
 )
-    ensures { Shifted R.Amount.Amount.algebra period (λ q total. R.Amount.Amount.algebra.minus total (part_of R.Amount.Amount.algebra (rules report.now) entry q)) table.old table.new }
+    ensures { Shifted R.Amount.algebra period (λ q total. R.Amount.algebra.minus total (part_of R.Amount.algebra (R.rules report.now) entry q)) table.old table.new }
 {
     if let Some((place, amount)) = named(report, entry) {
         let _ = table.take_away(period, place, amount);
@@ -37,7 +37,7 @@ pub fn replace_entry<R: Report>(
     old: Entry,
     new: Entry,
 )
-    ensures { Shifted R.Amount.Amount.algebra period (λ q total. R.Amount.Amount.algebra.plus (R.Amount.Amount.algebra.minus total (part_of R.Amount.Amount.algebra (rules report.now) old q)) (part_of R.Amount.Amount.algebra (rules report.now) new q)) table.old table.new }
+    ensures { Shifted R.Amount.algebra period (λ q total. R.Amount.algebra.plus (R.Amount.algebra.minus total (part_of R.Amount.algebra (R.rules report.now) old q)) (part_of R.Amount.algebra (R.rules report.now) new q)) table.old table.new }
 {
     take_entry(table, report, period, old);
     add_entry(table, report, period, new);

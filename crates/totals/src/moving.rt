@@ -16,7 +16,7 @@ pub fn move_total<R: Report>(
     old: Entry,
     new: Entry,
 ) -> Result<(), Refusal>
-    ensures { Moved R.Amount.Amount.algebra (rules report.now) periods period old new cells.old cells.new result }
+    ensures { Moved R.Amount.algebra (R.rules report.now) periods period old new cells.old cells.new result }
 {
     let places = report.place_count();
     if cells.len() != periods as usize * places {

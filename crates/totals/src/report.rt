@@ -29,5 +29,5 @@ pub trait Report {
 
     // Vouches that its amounts are small, so that a sum of 4,096 loses nothing. It does nothing else.
     fn vouch(&self)
-        ensures { Small (rules self.now) Self.Amount.Amount.figure };
+        ensures { Small (rules self.now) Self.Amount.figure };
 }

@@ -16,7 +16,7 @@ fn add_period<E: Entries, R: Report>(
     meters: &E,
     period: u8,
 )
-    ensures { Shifted R.Amount.Amount.algebra period (λ q total. R.Amount.Amount.algebra.plus total (total_of R.Amount.Amount.algebra (R.Report.rules report.now) (E.Entries.entries meters.now) (E.Entries.count meters.now) period q)) table.old table.new }
+    ensures { Shifted R.Amount.algebra period (λ q total. R.Amount.algebra.plus total (total_of R.Amount.algebra (R.rules report.now) (E.entries meters.now) (E.count meters.now) period q)) table.old table.new }
 {
     for index in 0..meters.meter_count() {
         add_entry(table, report, period, meters.entry_at(index, period));
@@ -25,7 +25,7 @@ fn add_period<E: Entries, R: Report>(
 
 // Adds what the entries of all meters bring to every total of a table.
 fn add_periods<E: Entries, R: Report>(table: &mut Totals<'_, R::Amount>, report: &R, meters: &E)
-    ensures { Raised R.Amount.Amount.algebra (R.Report.rules report.now) (E.Entries.entries meters.now) (E.Entries.count meters.now) table.old table.new }
+    ensures { Raised R.Amount.algebra (R.rules report.now) (E.entries meters.now) (E.count meters.now) table.old table.new }
 {
     for index in 0..table.periods() {
         add_period(table, report, meters, index + 1);
@@ -34,7 +34,7 @@ fn add_periods<E: Entries, R: Report>(table: &mut Totals<'_, R::Amount>, report:
 
 // Works every total of a table out from nothing.
 pub fn fill_table<E: Entries, R: Report>(table: &mut Totals<'_, R::Amount>, report: &R, meters: &E)
-    ensures { Filled R.Amount.Amount.algebra (R.Report.rules report.now) (E.Entries.entries meters.now) (E.Entries.count meters.now) table.old table.new }
+    ensures { Filled R.Amount.algebra (R.rules report.now) (E.entries meters.now) (E.count meters.now) table.old table.new }
 {
     table.clear();
     add_periods(table, report, meters);
@@ -47,7 +47,7 @@ pub fn settle_totals<E: Entries, R: Report>(
     report: &R,
     meters: &E,
 ) -> Result<(), Refusal>
-    ensures { Settled R.Amount.Amount.algebra (R.Report.rules report.now) (E.Entries.entries meters.now) (E.Entries.count meters.now) periods cells.old cells.new result }
+    ensures { Settled R.Amount.algebra (R.rules report.now) (E.entries meters.now) (E.count meters.now) periods cells.old cells.new result }
 {
     let places = report.place_count();
     if cells.len() != periods as usize * places {

@@ -60,7 +60,7 @@ impl<'a, M: Amount> Totals<'a, M> {
 
     // The total of a period and place.
     pub fn read(&self, period: u8, place: usize) -> Result<M, Refusal>
-        ensures { Read algebra.zero self.now period place result }
+        ensures { Read M.algebra.zero self.now period place result }
     {
         match self.index(period, place) {
             Some(index) => {
@@ -73,7 +73,7 @@ impl<'a, M: Amount> Totals<'a, M> {
 
     // Makes every total zero.
     pub fn clear(&mut self)
-        ensures { Cleared algebra.zero self.old self.new }
+        ensures { Cleared M.algebra.zero self.old self.new }
     {
         for i in 0..self.cells.len() {
             self.cells[i] = M::nothing();
@@ -82,7 +82,7 @@ impl<'a, M: Amount> Totals<'a, M> {
 
     // Adds an amount to the total of a period and place.
     pub fn add(&mut self, period: u8, place: usize, amount: M) -> Result<(), Refusal>
-        ensures { Changed algebra.zero (λ total. algebra.plus total amount) self.old self.new period place result }
+        ensures { Changed M.algebra.zero (λ total. M.algebra.plus total amount) self.old self.new period place result }
     {
         match self.index(period, place) {
             Some(index) => {
@@ -95,7 +95,7 @@ impl<'a, M: Amount> Totals<'a, M> {
 
     // Takes an amount away from the total of a period and place.
     pub fn take_away(&mut self, period: u8, place: usize, amount: M) -> Result<(), Refusal>
-        ensures { Changed algebra.zero (λ total. algebra.minus total amount) self.old self.new period place result }
+        ensures { Changed M.algebra.zero (λ total. M.algebra.minus total amount) self.old self.new period place result }
     {
         match self.index(period, place) {
             Some(index) => {

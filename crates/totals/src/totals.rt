@@ -1,12 +1,11 @@
 // One table of totals for every kind of amount.
 ghost use Rattle.std.specs.Prelude.{◌≡◌, ◌*◌, ◌≤◌, length};
 
-use amounts::amount::Amount;
 use market::refusal::Refusal;
 
 // A total for each period and place, in amounts that are lent: those of period 1 first, place by place.
 #[derive(Drop)]
-pub struct Totals<'a, M: Amount> {
+pub struct Totals<'a, M> {
     pub(crate) cells: &'a mut [M],
     pub(crate) periods: u8,
     pub(crate) places: usize,
@@ -16,7 +15,7 @@ pub struct Totals<'a, M: Amount> {
 
 // Amounts that are no such table, handed back as they were, and why.
 #[derive(Drop)]
-pub struct NoTable<'a, M: Amount> {
+pub struct NoTable<'a, M> {
     pub cells: &'a mut [M],
     pub refusal: Refusal,
 }
