@@ -1,5 +1,5 @@
 -- Values of the reports that are known from published documents, worked out there or by hand.
-use Rattle.std.specs.Prelude.{◌≡◌, ℕ, pos, neg_ℤ, Some, None}
+use Rattle.std.specs.Prelude.{◌≡◌, ℕ, pos, neg_ℤ, Some}
 use Rattle.qualities.specs.declared.quality.Quality.TheVariants.{A, E2, E8}
 use Rattle.meters.specs.declared.row.Status.TheVariants.{Deenergised}
 use Rattle.meters.specs.declared.row.MeterRow.{MeterRow}

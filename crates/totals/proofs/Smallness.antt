@@ -7,7 +7,6 @@ use Rattle.meters.specs.Lawful.{is_lawful}
 use Rattle.amounts.specs.Laws.{Algebra}
 use Rattle.amounts.specs.Sums.{Within, Exact}
 use Rattle.amounts.proofs.Exactly.{exact_4096}
-use Rattle.totals.specs.declared.entry.Entry.{Entry}
 use Rattle.totals.specs.Rules.{Rules, Small}
 use Rattle.totals.specs.Entry.{names, lawful_part, part_of}
 use Rattle.totals.specs.Exactness.{ExactTotals}

@@ -11,5 +11,5 @@ reported_values = record {
   estimated = search rules;
 }
 
-pub returns-then-losses-stand : goal.returns-then-losses-stand
-returns-then-losses-stand c = record { theorem = reported_values; value = search rules }
+pub returns-then-losses_stand : goal.returns-then-losses_stand
+returns-then-losses_stand c = record { theorem = reported_values; value = search rules }
