@@ -1,5 +1,5 @@
 // The table of totals, and totals that are worked out and moved.
-ghost use Rattle.std.specs.Prelude.{if_then_else_, nat_eq};
+ghost use Rattle.std.specs.Prelude.{if◌then◌else◌, nat_eq};
 
 use crate::meter::smart_import;
 use amounts::amount::Amount;
