@@ -2,7 +2,7 @@
 #![tactic(auto)]
 
 #[cfg(test)]
-mod amounts;
+mod figures;
 #[cfg(test)]
 mod meter;
 #[cfg(test)]

@@ -2,6 +2,6 @@
 #![tactic(auto)]
 
 #[cfg(test)]
-mod layers;
+mod layered;
 #[cfg(test)]
 mod memory;
