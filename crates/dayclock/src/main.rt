@@ -4,6 +4,7 @@
 use std::alloc::{AllocError, Global};
 use std::env::{Env, FillError};
 use std::io;
+use std::process::ExitCode;
 use std::str::from_utf8;
 use timetable::table::table;
 use timetable::word::read_date;
@@ -107,13 +108,13 @@ fn answer_all(rt: &HostRuntime) -> io::Result<Said> {
     Ok(said)
 }
 
-fn main(rt: HostRuntime) -> io::Result<()> {
+fn main(rt: HostRuntime) -> io::Result<ExitCode> {
     let said = answer_all(&rt)?;
     if said.complaints {
-        return Err(io::Error::from(io::ErrorKind::InvalidInput));
+        return Ok(ExitCode::FAILURE);
     }
     if !said.answers {
         print_usage(&rt)?;
     }
-    Ok(())
+    Ok(ExitCode::SUCCESS)
 }

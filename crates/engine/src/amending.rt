@@ -25,7 +25,7 @@ fn amend_period<S: Store, R: Report>(
     report: &R,
     period: u8,
 ) -> Result<(), Refusal>
-    ensures { Moved R.Amount.Amount.algebra (R.Report.rules report.now) periods period (entry_by factors.now shapes.now old (S.Store.grid store.now meter period) period) (entry_by factors.now shapes.now new (S.Store.grid store.now meter period) period) cells.old cells.new result }
+    ensures { Moved R.Amount.algebra (R.rules report.now) periods period (entry_by factors.now shapes.now old (S.grid store.now meter period) period) (entry_by factors.now shapes.now new (S.grid store.now meter period) period) cells.old cells.new result }
 {
     let stored = store.show(meter, S::Period::of_number(period));
     let before = entry_of(factors, shapes, old, stored, period);
@@ -45,7 +45,7 @@ pub fn amend_totals<S: Store, R: Report>(
     cells: &mut [R::Amount],
     report: &R,
 ) -> Result<(), Refusal>
-    ensures { Amended R.Amount.Amount.algebra (R.Report.rules report.now) periods (S.Store.grid store.now) factors.now shapes.now meter old new cells.old cells.new result }
+    ensures { Amended R.Amount.algebra (R.rules report.now) periods (S.grid store.now) factors.now shapes.now meter old new cells.old cells.new result }
 {
     if cells.len() != periods as usize * report.place_count() {
         return Err(Refusal::Sizes);

@@ -24,9 +24,9 @@ fn revise_meter<S: Store, R: Report>(
     report: &R,
     i: usize,
 )
-    requires fits { length cells.old ≡ periods * (R.Report.rules report.now).places }
+    requires fits { length cells.old ≡ periods * (R.rules report.now).places }
     requires met { i < length rows.now }
-    ensures { RevisedFrom R.Amount.Amount.algebra (R.Report.rules report.now) periods (S.Store.grid store.now) rows.now factors.now shapes.now revision period i (i + 1) cells.old cells.new }
+    ensures { RevisedFrom R.Amount.algebra (R.rules report.now) periods (S.grid store.now) rows.now factors.now shapes.now revision period i (i + 1) cells.old cells.new }
 {
     let row = rows[i];
     if revision.concerns(row) {
@@ -50,7 +50,7 @@ pub fn revise_totals<S: Store, R: Report>(
     cells: &mut [R::Amount],
     report: &R,
 ) -> Result<(), Refusal>
-    ensures { Revised R.Amount.Amount.algebra (R.Report.rules report.now) periods (S.Store.grid store.now) rows.now factors.now shapes.now revision period cells.old cells.new result }
+    ensures { Revised R.Amount.algebra (R.rules report.now) periods (S.grid store.now) rows.now factors.now shapes.now revision period cells.old cells.new result }
 {
     if cells.len() != periods as usize * report.place_count() {
         return Err(Refusal::Sizes);

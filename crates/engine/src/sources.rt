@@ -20,7 +20,7 @@ pub struct Sources<'a, S: Store> {
 }
 
 impl<'a, S: Store> Entries for Sources<'a, S> {
-    ghost entries = { λ s. entries_of (S.Store.grid s.store.now) s.rows.now s.factors.now s.shapes.now };
+    ghost entries = { λ s. entries_of (S.grid s.store.now) s.rows.now s.factors.now s.shapes.now };
 
     ghost count = { λ s. length s.rows.now };
 

@@ -31,9 +31,9 @@ pub fn act_settle<'a, S: Store, Q: Report, R: Report>(
     second_totals: &mut [R::Amount],
     second: &R,
 ) -> Outcome
-    requires sized { let t = setting S.Store.meters S.Store.periods S.Store.grid S.Store.fixed Amount-as-Amount-1.algebra Amount-as-Amount-1.figure (Q.Report.rules first.now) Amount-as-Amount-2.algebra Amount-as-Amount-2.figure (R.Report.rules second.now) in let w = world day.old store.now rows.now factors.now shapes.now first_totals.old second_totals.old in Sized (standing_of t w) }
+    requires sized { let t = setting S.meters S.periods S.grid S.fixed Q.Amount.algebra Q.Amount.figure (Q.rules first.now) R.Amount.algebra R.Amount.figure (R.rules second.now) in let w = world day.old store.now rows.now factors.now shapes.now first_totals.old second_totals.old in Sized (standing_of t w) }
     requires timely { Untimely day.old.state Settle → ⊥ }
-    ensures { let t = setting S.Store.meters S.Store.periods S.Store.grid S.Store.fixed Amount-as-Amount-1.algebra Amount-as-Amount-1.figure (Q.Report.rules first.now) Amount-as-Amount-2.algebra Amount-as-Amount-2.figure (R.Report.rules second.now) in let w = world day.old store.now rows.now factors.now shapes.now first_totals.old second_totals.old in let v = world day.new store.now rows.now factors.now shapes.now first_totals.new second_totals.new in Acted t w settles result v }
+    ensures { let t = setting S.meters S.periods S.grid S.fixed Q.Amount.algebra Q.Amount.figure (Q.rules first.now) R.Amount.algebra R.Amount.figure (R.rules second.now) in let w = world day.old store.now rows.now factors.now shapes.now first_totals.old second_totals.old in let v = world day.new store.now rows.now factors.now shapes.now first_totals.new second_totals.new in Acted t w settles result v }
 {
     let sources = Sources {
         store,
@@ -60,7 +60,7 @@ pub fn act_close<S: Store, Q: Report, R: Report>(
     second: &R,
 ) -> Outcome
     requires timely { Untimely day.old.state Close → ⊥ }
-    ensures { let t = setting S.Store.meters S.Store.periods S.Store.grid S.Store.fixed Amount-as-Amount-1.algebra Amount-as-Amount-1.figure (Q.Report.rules first.now) Amount-as-Amount-2.algebra Amount-as-Amount-2.figure (R.Report.rules second.now) in let w = world day.old store.now rows.now factors.now shapes.now first_totals.now second_totals.now in let v = world day.new store.now rows.now factors.now shapes.now first_totals.now second_totals.now in Acted t w closes result v }
+    ensures { let t = setting S.meters S.periods S.grid S.fixed Q.Amount.algebra Q.Amount.figure (Q.rules first.now) R.Amount.algebra R.Amount.figure (R.rules second.now) in let w = world day.old store.now rows.now factors.now shapes.now first_totals.now second_totals.now in let v = world day.new store.now rows.now factors.now shapes.now first_totals.now second_totals.now in Acted t w closes result v }
 {
     let _ = day.state.advance(Event::Close);
     Outcome::Done
@@ -91,9 +91,9 @@ pub fn act_deliver<S: Store, Q: Report, R: Report>(
     period: S::Period,
     reading: Reading,
 ) -> Outcome
-    requires sized { let t = setting S.Store.meters S.Store.periods S.Store.grid S.Store.fixed Amount-as-Amount-1.algebra Amount-as-Amount-1.figure (Q.Report.rules first.now) Amount-as-Amount-2.algebra Amount-as-Amount-2.figure (R.Report.rules second.now) in let w = world day.now store.old rows.now factors.now shapes.now first_totals.old second_totals.old in Sized (standing_of t w) }
-    requires placed { let t = setting S.Store.meters S.Store.periods S.Store.grid S.Store.fixed Amount-as-Amount-1.algebra Amount-as-Amount-1.figure (Q.Report.rules first.now) Amount-as-Amount-2.algebra Amount-as-Amount-2.figure (R.Report.rules second.now) in let w = world day.now store.old rows.now factors.now shapes.now first_totals.old second_totals.old in Placed t w meter (S.Period.Period.number period) }
-    ensures { let t = setting S.Store.meters S.Store.periods S.Store.grid S.Store.fixed Amount-as-Amount-1.algebra Amount-as-Amount-1.figure (Q.Report.rules first.now) Amount-as-Amount-2.algebra Amount-as-Amount-2.figure (R.Report.rules second.now) in let w = world day.now store.old rows.now factors.now shapes.now first_totals.old second_totals.old in let v = world day.now store.new rows.now factors.now shapes.now first_totals.new second_totals.new in Acted t w (delivers meter (S.Period.Period.number period) reading) result v }
+    requires sized { let t = setting S.meters S.periods S.grid S.fixed Q.Amount.algebra Q.Amount.figure (Q.rules first.now) R.Amount.algebra R.Amount.figure (R.rules second.now) in let w = world day.now store.old rows.now factors.now shapes.now first_totals.old second_totals.old in Sized (standing_of t w) }
+    requires placed { let t = setting S.meters S.periods S.grid S.fixed Q.Amount.algebra Q.Amount.figure (Q.rules first.now) R.Amount.algebra R.Amount.figure (R.rules second.now) in let w = world day.now store.old rows.now factors.now shapes.now first_totals.old second_totals.old in Placed t w meter (S.Period.number period) }
+    ensures { let t = setting S.meters S.periods S.grid S.fixed Q.Amount.algebra Q.Amount.figure (Q.rules first.now) R.Amount.algebra R.Amount.figure (R.rules second.now) in let w = world day.now store.old rows.now factors.now shapes.now first_totals.old second_totals.old in let v = world day.now store.new rows.now factors.now shapes.now first_totals.new second_totals.new in Acted t w (delivers meter (S.Period.number period) reading) result v }
 {
     let stored = (*store).show(meter, period);
     if !comes_to_stand(reading, stored) {

@@ -26,7 +26,7 @@ pub fn settle<S: Store, Q: Report, R: Report>(
     second_totals: &mut [R::Amount],
     second: &R,
 ) -> Result<Outcome, Refusal>
-    ensures { let t = setting S.Store.meters S.Store.periods S.Store.grid S.Store.fixed Amount-as-Amount-1.algebra Amount-as-Amount-1.figure (Q.Report.rules first.now) Amount-as-Amount-2.algebra Amount-as-Amount-2.figure (R.Report.rules second.now) in let w = world day.old store.old rows.old factors.old shapes.old first_totals.old second_totals.old in let v = world day.new store.new rows.new factors.new shapes.new first_totals.new second_totals.new in Step t w asks.settle result v }
+    ensures { let t = setting S.meters S.periods S.grid S.fixed Q.Amount.algebra Q.Amount.figure (Q.rules first.now) R.Amount.algebra R.Amount.figure (R.rules second.now) in let w = world day.old store.old rows.old factors.old shapes.old first_totals.old second_totals.old in let v = world day.new store.new rows.new factors.new shapes.new first_totals.new second_totals.new in Step t w asks.settle result v }
 {
     perform(
         day,
@@ -57,7 +57,7 @@ pub fn deliver<S: Store, Q: Report, R: Report>(
     period: S::Period,
     delivery: Delivery,
 ) -> Result<Outcome, Refusal>
-    ensures { let t = setting S.Store.meters S.Store.periods S.Store.grid S.Store.fixed Amount-as-Amount-1.algebra Amount-as-Amount-1.figure (Q.Report.rules first.now) Amount-as-Amount-2.algebra Amount-as-Amount-2.figure (R.Report.rules second.now) in let w = world day.old store.old rows.old factors.old shapes.old first_totals.old second_totals.old in let v = world day.new store.new rows.new factors.new shapes.new first_totals.new second_totals.new in Step t w (asks.deliver meter (S.Period.Period.number period) delivery) result v }
+    ensures { let t = setting S.meters S.periods S.grid S.fixed Q.Amount.algebra Q.Amount.figure (Q.rules first.now) R.Amount.algebra R.Amount.figure (R.rules second.now) in let w = world day.old store.old rows.old factors.old shapes.old first_totals.old second_totals.old in let v = world day.new store.new rows.new factors.new shapes.new first_totals.new second_totals.new in Step t w (asks.deliver meter (S.Period.number period) delivery) result v }
 {
     perform(
         day,
@@ -91,7 +91,7 @@ pub fn amend<S: Store, Q: Report, R: Report>(
     meter: usize,
     row: MeterRow,
 ) -> Result<Outcome, Refusal>
-    ensures { let t = setting S.Store.meters S.Store.periods S.Store.grid S.Store.fixed Amount-as-Amount-1.algebra Amount-as-Amount-1.figure (Q.Report.rules first.now) Amount-as-Amount-2.algebra Amount-as-Amount-2.figure (R.Report.rules second.now) in let w = world day.old store.old rows.old factors.old shapes.old first_totals.old second_totals.old in let v = world day.new store.new rows.new factors.new shapes.new first_totals.new second_totals.new in Step t w (asks.amend meter row) result v }
+    ensures { let t = setting S.meters S.periods S.grid S.fixed Q.Amount.algebra Q.Amount.figure (Q.rules first.now) R.Amount.algebra R.Amount.figure (R.rules second.now) in let w = world day.old store.old rows.old factors.old shapes.old first_totals.old second_totals.old in let v = world day.new store.new rows.new factors.new shapes.new first_totals.new second_totals.new in Step t w (asks.amend meter row) result v }
 {
     perform(
         day,
@@ -122,7 +122,7 @@ pub fn set_factor<S: Store, Q: Report, R: Report>(
     period: S::Period,
     factor: u16,
 ) -> Result<Outcome, Refusal>
-    ensures { let t = setting S.Store.meters S.Store.periods S.Store.grid S.Store.fixed Amount-as-Amount-1.algebra Amount-as-Amount-1.figure (Q.Report.rules first.now) Amount-as-Amount-2.algebra Amount-as-Amount-2.figure (R.Report.rules second.now) in let w = world day.old store.old rows.old factors.old shapes.old first_totals.old second_totals.old in let v = world day.new store.new rows.new factors.new shapes.new first_totals.new second_totals.new in Step t w (asks.factor class (S.Period.Period.number period) factor) result v }
+    ensures { let t = setting S.meters S.periods S.grid S.fixed Q.Amount.algebra Q.Amount.figure (Q.rules first.now) R.Amount.algebra R.Amount.figure (R.rules second.now) in let w = world day.old store.old rows.old factors.old shapes.old first_totals.old second_totals.old in let v = world day.new store.new rows.new factors.new shapes.new first_totals.new second_totals.new in Step t w (asks.factor class (S.Period.number period) factor) result v }
 {
     perform(
         day,
@@ -157,7 +157,7 @@ pub fn set_shape<S: Store, Q: Report, R: Report>(
     period: S::Period,
     shape: u32,
 ) -> Result<Outcome, Refusal>
-    ensures { let t = setting S.Store.meters S.Store.periods S.Store.grid S.Store.fixed Amount-as-Amount-1.algebra Amount-as-Amount-1.figure (Q.Report.rules first.now) Amount-as-Amount-2.algebra Amount-as-Amount-2.figure (R.Report.rules second.now) in let w = world day.old store.old rows.old factors.old shapes.old first_totals.old second_totals.old in let v = world day.new store.new rows.new factors.new shapes.new first_totals.new second_totals.new in Step t w (asks.shape class (S.Period.Period.number period) shape) result v }
+    ensures { let t = setting S.meters S.periods S.grid S.fixed Q.Amount.algebra Q.Amount.figure (Q.rules first.now) R.Amount.algebra R.Amount.figure (R.rules second.now) in let w = world day.old store.old rows.old factors.old shapes.old first_totals.old second_totals.old in let v = world day.new store.new rows.new factors.new shapes.new first_totals.new second_totals.new in Step t w (asks.shape class (S.Period.number period) shape) result v }
 {
     perform(
         day,
@@ -189,7 +189,7 @@ pub fn close<S: Store, Q: Report, R: Report>(
     second_totals: &mut [R::Amount],
     second: &R,
 ) -> Result<Outcome, Refusal>
-    ensures { let t = setting S.Store.meters S.Store.periods S.Store.grid S.Store.fixed Amount-as-Amount-1.algebra Amount-as-Amount-1.figure (Q.Report.rules first.now) Amount-as-Amount-2.algebra Amount-as-Amount-2.figure (R.Report.rules second.now) in let w = world day.old store.old rows.old factors.old shapes.old first_totals.old second_totals.old in let v = world day.new store.new rows.new factors.new shapes.new first_totals.new second_totals.new in Step t w asks.close result v }
+    ensures { let t = setting S.meters S.periods S.grid S.fixed Q.Amount.algebra Q.Amount.figure (Q.rules first.now) R.Amount.algebra R.Amount.figure (R.rules second.now) in let w = world day.old store.old rows.old factors.old shapes.old first_totals.old second_totals.old in let v = world day.new store.new rows.new factors.new shapes.new first_totals.new second_totals.new in Step t w asks.close result v }
 {
     perform(
         day,

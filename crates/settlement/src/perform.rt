@@ -26,7 +26,7 @@ pub fn perform<S: Store, Q: Report, R: Report>(
     second: &R,
     call: Call<S::Period>,
 ) -> Result<Outcome, Refusal>
-    ensures { let t = setting S.Store.meters S.Store.periods S.Store.grid S.Store.fixed Amount-as-Amount-1.algebra Amount-as-Amount-1.figure (Q.Report.rules first.now) Amount-as-Amount-2.algebra Amount-as-Amount-2.figure (R.Report.rules second.now) in let w = world day.old store.old rows.old factors.old shapes.old first_totals.old second_totals.old in let v = world day.new store.new rows.new factors.new shapes.new first_totals.new second_totals.new in Step t w (asked S.Period.Period.number call) result v }
+    ensures { let t = setting S.meters S.periods S.grid S.fixed Q.Amount.algebra Q.Amount.figure (Q.rules first.now) R.Amount.algebra R.Amount.figure (R.rules second.now) in let w = world day.old store.old rows.old factors.old shapes.old first_totals.old second_totals.old in let v = world day.new store.new rows.new factors.new shapes.new first_totals.new second_totals.new in Step t w (asked S.Period.number call) result v }
 {
     match ruling(
         day,

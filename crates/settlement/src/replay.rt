@@ -30,7 +30,7 @@ fn run_all<S: Store, Q: Report, R: Report>(
     requires empty { (answers.old.items ≡ []) × (vec_len answers.old ≡ 0) }
     requires room { length calls.now ≤ vec_capacity answers.old }
     ensures count { vec_len answers.new ≡ length calls.now }
-    ensures run { let t = setting S.Store.meters S.Store.periods S.Store.grid S.Store.fixed Amount-as-Amount-1.algebra Amount-as-Amount-1.figure (Q.Report.rules first.now) Amount-as-Amount-2.algebra Amount-as-Amount-2.figure (R.Report.rules second.now) in let w = world day.old store.old rows.old factors.old shapes.old first_totals.old second_totals.old in let v = world day.new store.new rows.new factors.new shapes.new first_totals.new second_totals.new in NoDrift t w (history_of S.Period.Period.number calls.now answers.new.items) v }
+    ensures run { let t = setting S.meters S.periods S.grid S.fixed Q.Amount.algebra Q.Amount.figure (Q.rules first.now) R.Amount.algebra R.Amount.figure (R.rules second.now) in let w = world day.old store.old rows.old factors.old shapes.old first_totals.old second_totals.old in let v = world day.new store.new rows.new factors.new shapes.new first_totals.new second_totals.new in NoDrift t w (history_of S.Period.number calls.now answers.new.items) v }
 {
     vouch_totals(first);
     vouch_totals(second);
@@ -66,7 +66,7 @@ pub fn replay<S: Store, Q: Report, R: Report>(
     second: &R,
     calls: &[Call<S::Period>],
 ) -> Result<Vec<Result<Outcome, Refusal>>, AllocError>
-    ensures { let t = setting S.Store.meters S.Store.periods S.Store.grid S.Store.fixed Amount-as-Amount-1.algebra Amount-as-Amount-1.figure (Q.Report.rules first.now) Amount-as-Amount-2.algebra Amount-as-Amount-2.figure (R.Report.rules second.now) in let w = world day.old store.old rows.old factors.old shapes.old first_totals.old second_totals.old in let v = world day.new store.new rows.new factors.new shapes.new first_totals.new second_totals.new in Replayed t S.Period.Period.number w calls.now result v }
+    ensures { let t = setting S.meters S.periods S.grid S.fixed Q.Amount.algebra Q.Amount.figure (Q.rules first.now) R.Amount.algebra R.Amount.figure (R.rules second.now) in let w = world day.old store.old rows.old factors.old shapes.old first_totals.old second_totals.old in let v = world day.new store.new rows.new factors.new shapes.new first_totals.new second_totals.new in Replayed t S.Period.number w calls.now result v }
 {
     match Vec::with_capacity(heap, calls.len()) {
         Err(error) => Err(error),

@@ -25,8 +25,8 @@ pub fn ruling<S: Store, Q: Report, R: Report>(
     second: &R,
     call: Call<S::Period>,
 ) -> Result<Task<S::Period>, Refusal>
-    ensures judged { let t = setting S.Store.meters S.Store.periods S.Store.grid S.Store.fixed Amount-as-Amount-1.algebra Amount-as-Amount-1.figure (Q.Report.rules first.now) Amount-as-Amount-2.algebra Amount-as-Amount-2.figure (R.Report.rules second.now) in let w = world day.now store.now rows.now factors.now shapes.now first_totals.now second_totals.now in Judged (standing_of t w) (asked S.Period.Period.number call) result }
-    ensures cleared { let t = setting S.Store.meters S.Store.periods S.Store.grid S.Store.fixed Amount-as-Amount-1.algebra Amount-as-Amount-1.figure (Q.Report.rules first.now) Amount-as-Amount-2.algebra Amount-as-Amount-2.figure (R.Report.rules second.now) in let w = world day.now store.now rows.now factors.now shapes.now first_totals.now second_totals.now in Cleared S.Period.Period.number (standing_of t w) (asked S.Period.Period.number call) result }
+    ensures judged { let t = setting S.meters S.periods S.grid S.fixed Q.Amount.algebra Q.Amount.figure (Q.rules first.now) R.Amount.algebra R.Amount.figure (R.rules second.now) in let w = world day.now store.now rows.now factors.now shapes.now first_totals.now second_totals.now in Judged (standing_of t w) (asked S.Period.number call) result }
+    ensures cleared { let t = setting S.meters S.periods S.grid S.fixed Q.Amount.algebra Q.Amount.figure (Q.rules first.now) R.Amount.algebra R.Amount.figure (R.rules second.now) in let w = world day.now store.now rows.now factors.now shapes.now first_totals.now second_totals.now in Cleared S.Period.number (standing_of t w) (asked S.Period.number call) result }
 {
     let sizes = Sizes {
         periods: day.periods,
