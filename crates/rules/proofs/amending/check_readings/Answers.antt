@@ -11,7 +11,7 @@ loop-i-init g c = among_none (ReadingFault (g.S.Store.grid c.args.store.now) c.a
 pub loop-i-preserved : goal.loop-i-preserved
 loop-i-preserved g c =
     let B : ℕ → ℕ → Type 0 = ReadingFault (g.S.Store.grid c.args.store.now) c.args.meter.row c.args.number in
-    subst (Lowest (Among (c.loop-i.i + 1) B)) (sym c.earlier-found.ensures) (among_more B c.loop-i.i _ _ c.loop-i.invariant c.check-reading.ensures)
+    subst (Lowest (Among (c.loop-i.i + 1) B)) (sym c.earlier-found.ensures) (among_more B c.loop-i.i _ _ c.loop-i.invariant c.check_reading.ensures)
 
 pub returns : goal.returns
 returns g c =

@@ -10,7 +10,7 @@ returns-in-Err g c =
     let s = c.args.store.now in
     let x : Standing = standing c.args.state c.args.sizes (g.S.Store.meters s) (g.S.Store.periods s) (g.S.Store.grid s) c.args.rows.now c.args.factors.now c.args.shapes.now in
     record {
-      lowest = shape_faults x c.args.class (g.Period.Period.number c.args.period) c.args.shape _ (ltb-true _ _) (lt-ltb _ _) c.number-of.result (Some (number_of c.in-Err.refusal)) c.number-of.ensures c.in-Err.ensures;
+      lowest = shape_faults x c.args.class (g.S.Period.Period.number c.args.period) c.args.shape _ (ltb-true _ _) (lt-ltb _ _) c.number_of.result (Some (number_of c.in-Err.refusal)) c.number_of.ensures c.in-Err.ensures;
       task = tt;
     }
 
@@ -19,6 +19,6 @@ returns-in-Ok g c =
     let s = c.args.store.now in
     let x : Standing = standing c.args.state c.args.sizes (g.S.Store.meters s) (g.S.Store.periods s) (g.S.Store.grid s) c.args.rows.now c.args.factors.now c.args.shapes.now in
     record {
-      lowest = shape_faults x c.args.class (g.Period.Period.number c.args.period) c.args.shape _ (ltb-true _ _) (lt-ltb _ _) c.number-of.result None c.number-of.ensures c.in-Ok.ensures;
+      lowest = shape_faults x c.args.class (g.S.Period.Period.number c.args.period) c.args.shape _ (ltb-true _ _) (lt-ltb _ _) c.number_of.result None c.number_of.ensures c.in-Ok.ensures;
       task = (refl, refl, refl);
     }

@@ -15,8 +15,8 @@ loop-i-preserved g c =
     let W : MeterRow → ℕ → ℕ → Type 0 = RowFault (g.S.Store.grid c.args.store.now) c.args.factors.now c.args.shapes.now c.args.period in
     let B : ℕ → ℕ → Type 0 = λ m. W (row_of c.args.rows.now m) m in
     let back : c.loop-i.i + 1 - 1 ≡ c.loop-i.i = omega arith in
-    let here : Lowest (B (c.loop-i.i + 1)) (turned_down c.check-row.result) =
-    subst (λ (k : ℕ). Lowest (W (get_or c.args.rows.now k no_row) (c.loop-i.i + 1)) (turned_down c.check-row.result)) (sym back) c.check-row.ensures in
+    let here : Lowest (B (c.loop-i.i + 1)) (turned_down c.check_row.result) =
+    subst (λ (k : ℕ). Lowest (W (get_or c.args.rows.now k no_row) (c.loop-i.i + 1)) (turned_down c.check_row.result)) (sym back) c.check_row.ensures in
     subst (Lowest (Among (c.loop-i.i + 1) B)) (sym c.earlier-found.ensures) (among_more B c.loop-i.i _ _ c.loop-i.invariant here)
 
 pub returns : goal.returns
