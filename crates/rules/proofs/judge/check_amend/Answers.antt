@@ -10,7 +10,7 @@ pub returns-in-Settled : goal.returns-in-Settled
 returns-in-Settled g c =
     let s = c.args.store.now in
     let x : Standing = standing c.args.state c.args.sizes (g.S.Store.meters s) (g.S.Store.periods s) (g.S.Store.grid s) c.args.rows.now c.args.factors.now c.args.shapes.now in
-    subst (Lowest (LaterFault x (amend c.args.meter c.args.row))) (sym c.earlier.ensures)
+    rw c.earlier.ensures
     (amend_settled x c.args.meter c.args.row (turned_down c.check_record-new.result) (turned_down c.check_record-old.result) c.in-Settled.is c.check_record-new.ensures c.check_record-old.ensures)
 
 pub returns-in_default : goal.returns-in_default

@@ -11,14 +11,7 @@ pub returns-in-Settled : goal.returns-in-Settled
 returns-in-Settled g c =
     let rows = c.args.rows.now in
     let B : ℕ → Type 0 = Among (length rows) (λ m. RowFault (g.S.Store.grid c.args.store.now) c.args.factors.now c.args.shapes.now c.args.period (row_of rows m) m) in
-    subst (Lowest (RevisionFault c.args.state (g.S.Store.grid c.args.store.now) c.args.factors.now c.args.shapes.now rows c.args.period c.args.above)) (sym c.earlier.ensures)
+    rw c.earlier.ensures
     (lowest_or (λ n. (c.args.state ≡ Settled) × B n) (λ n. (n ≡ 6) × (c.args.above ≡ true)) (turned_down c.check_period.result) (turned_down c.check_given.result)
     (lowest_same B (λ n. (c.args.state ≡ Settled) × B n) (turned_down c.check_period.result) (λ n y. (c.in-Settled.is, y)) (λ n y. y.1) c.check_period.ensures)
     c.check_given.ensures)
-
-pub returns-in_default : goal.returns-in_default
-returns-in_default g c =
-    let rows = c.args.rows.now in
-    let B : ℕ → Type 0 = Among (length rows) (λ m. RowFault (g.S.Store.grid c.args.store.now) c.args.factors.now c.args.shapes.now c.args.period (row_of rows m) m) in
-    lowest_after (λ n. (c.args.state ≡ Settled) × B n) (λ n. (n ≡ 6) × (c.args.above ≡ true)) (turned_down c.check_given-in_default.result)
-    (λ k y. let other : c.args.state ≡ Settled → ⊥ = search rules in other y.0) c.check_given-in_default.ensures

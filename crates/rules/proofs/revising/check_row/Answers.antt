@@ -8,7 +8,3 @@ pub returns-in-Ok : goal.returns-in-Ok
 returns-in-Ok g c =
     law_kept c.args.row (PlaceFault (g.S.Store.grid c.args.store.now) c.args.factors.now c.args.shapes.now c.args.row c.args.number c.args.period) (turned_down c.check_place.result) (search rules)
     (subst (λ row. Lowest (PlaceFault (g.S.Store.grid c.args.store.now) c.args.factors.now c.args.shapes.now row c.args.number c.args.period) (turned_down c.check_place.result)) c.in-Ok.ensures.0 c.check_place.ensures)
-
-pub returns-in-Err : goal.returns-in-Err
-returns-in-Err g c =
-    law_broken c.args.row (PlaceFault (g.S.Store.grid c.args.store.now) c.args.factors.now c.args.shapes.now c.args.row c.args.number c.args.period) _ (search rules) (search rules) (λ k y. place_late (g.S.Store.grid c.args.store.now) c.args.factors.now c.args.shapes.now c.args.row c.args.number c.args.period k y)
