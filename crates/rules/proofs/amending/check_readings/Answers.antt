@@ -1,8 +1,6 @@
-use Rattle.std.proofs.Common.{◌≡◌, ℕ, ◌+◌, sym, subst, arith}
-use Rattle.market.specs.Lowest.{Lowest, turned_down}
-use Rattle.rules.specs.Joined.{Among}
+use Rattle.std.proofs.Common.{◌≡◌, arith}
 use Rattle.rules.specs.Places.{ReadingFault}
-use Rattle.rules.proofs.Lowests.{among_none, among_more}
+use Rattle.rules.proofs.Lowests.{among_more}
 use Rattle.rules.proofs.amending.check_readings.Goals as goal
 
 pub loop-i-preserved : goal.loop-i-preserved

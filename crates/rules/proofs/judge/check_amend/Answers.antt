@@ -1,8 +1,6 @@
-use Rattle.std.proofs.Common.{sym, subst, rules}
-use Rattle.market.specs.Lowest.{Lowest, turned_down}
-use Rattle.rules.specs.Asked.{amend}
+use Rattle.std.proofs.Common.{rules}
+use Rattle.market.specs.Lowest.{turned_down}
 use Rattle.rules.specs.Standing.{Standing, standing}
-use Rattle.rules.specs.Rules.{LaterFault}
 use Rattle.rules.proofs.Judgements.{amend_settled, amend_new}
 use Rattle.rules.proofs.judge.check_amend.Goals as goal
 

@@ -1,10 +1,10 @@
-use Rattle.std.proofs.Common.{◌≡◌, ℕ, true, length, sym, subst, rules}
-use Rattle.market.specs.Lowest.{Lowest, turned_down}
+use Rattle.std.proofs.Common.{◌≡◌, ℕ, true, length}
+use Rattle.market.specs.Lowest.{turned_down}
 use Rattle.rules.specs.declared.state.State.TheVariants.{Settled}
 use Rattle.rules.specs.Joined.{Among}
 use Rattle.rules.specs.Tables.{row_of}
-use Rattle.rules.specs.Places.{RowFault, RevisionFault}
-use Rattle.rules.proofs.Lowests.{lowest_same, lowest_or, lowest_after}
+use Rattle.rules.specs.Places.{RowFault}
+use Rattle.rules.proofs.Lowests.{lowest_same, lowest_or}
 use Rattle.rules.proofs.judge.check_revision.Goals as goal
 
 pub returns-in-Settled : goal.returns-in-Settled

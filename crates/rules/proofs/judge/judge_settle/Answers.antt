@@ -1,8 +1,7 @@
-use Rattle.std.proofs.Common.{Some, None, subst}
+use Rattle.std.proofs.Common.{Some, None}
 use Rattle.market.specs.Refusal.{number_of}
 use Rattle.rules.specs.Standing.{Standing, standing}
 use Rattle.rules.proofs.Judgements.{settle_faults}
-use Rattle.rules.proofs.judge.judge_settle.Given as given
 use Rattle.rules.proofs.judge.judge_settle.Goals as goal
 
 pub returns-in-Err-clause-lowest : goal.returns-in-Err-clause-lowest

@@ -1,4 +1,4 @@
-use Rattle.std.proofs.Common.{Some, None, refl, rules}
+use Rattle.std.proofs.Common.{Some, None}
 use Rattle.std.proofs.lemmas.Bool.{ltb-true, lt-ltb}
 use Rattle.market.specs.Refusal.{number_of}
 use Rattle.rules.specs.Standing.{Standing, standing}

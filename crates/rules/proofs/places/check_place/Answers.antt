@@ -1,4 +1,4 @@
-use Rattle.std.proofs.Common.{ap, ◌∙◌, rules}
+use Rattle.std.proofs.Common.{rules}
 use Rattle.rules.proofs.Faults.{place_classed}
 use Rattle.rules.proofs.places.check_place.Goals as goal
 

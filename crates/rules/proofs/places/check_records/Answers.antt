@@ -1,10 +1,7 @@
-use Rattle.std.proofs.Common.{◌≡◌, ℕ, ◌+◌, ◌-◌, length, get_or, sym, ap, subst, arith}
-use Rattle.market.specs.Lowest.{Lowest, turned_down}
-use Rattle.meters.specs.declared.row.MeterRow.{MeterRow}
-use Rattle.rules.specs.Joined.{Among}
+use Rattle.std.proofs.Common.{◌≡◌, ◌+◌, ◌-◌, length, arith}
 use Rattle.rules.specs.Places.{WholeFault}
-use Rattle.rules.specs.Tables.{row_of, no_row}
-use Rattle.rules.proofs.Lowests.{among_none, among_more}
+use Rattle.rules.specs.Tables.{row_of}
+use Rattle.rules.proofs.Lowests.{among_more}
 use Rattle.rules.proofs.places.check_records.Goals as goal
 
 pub loop-i-preserved : goal.loop-i-preserved
