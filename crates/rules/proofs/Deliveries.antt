@@ -1,5 +1,5 @@
 -- The faults of a delivery, joined.
-use Rattle.std.proofs.Common.{◌≡◌, ℕ, ◌≤◌, ◌⊎◌, List, Some, None, Option, sym, ◌∙◌, subst, inl, inr, ⊎_elim, arith}
+use Rattle.std.proofs.Common.{◌≡◌, ℕ, ◌≤◌, List, Some, None, Option, sym, ◌∙◌, subst, ⊎_elim, arith}
 use Rattle.market.specs.Lowest.{Lowest}
 use Rattle.qualities.specs.declared.quality.Quality.{Quality}
 use Rattle.qualities.specs.Quality.{number_of}

@@ -1,5 +1,5 @@
 -- The faults of one record, joined.
-use Rattle.std.proofs.Common.{◌≡◌, ℕ, ◌≤◌, ◌⊎◌, List, Some, None, Option, sym, refl, subst, inl, inr, ⊎_elim, arith}
+use Rattle.std.proofs.Common.{◌≡◌, ℕ, ◌≤◌, ◌⊎◌, List, Some, Option, sym, subst, ⊎_elim, arith}
 use Rattle.market.specs.Lowest.{Lowest}
 use Rattle.readings.specs.declared.reading.Reading.{Reading}
 use Rattle.meters.specs.declared.row.MeterRow.{MeterRow}

@@ -11,7 +11,7 @@ use Rattle.rules.specs.Tables.{row_of}
 use Rattle.rules.specs.Asked.{Asked, settle, deliver, amend, factor, shape, close}
 use Rattle.rules.specs.Standing.{Standing}
 use Rattle.rules.specs.Joined.{lower, Among}
-use Rattle.rules.specs.Places.{ReadingFault, TablesFault, PlaceFault, WholeFault, StoredFault, RowFault, RevisionFault, OneFault}
+use Rattle.rules.specs.Places.{ReadingFault, TablesFault, WholeFault, StoredFault, RowFault, RevisionFault, OneFault}
 use Rattle.rules.specs.Rules.{FirstFault, RecordFault, ReadFault, DeliverFault, GivenFault, LaterFault, Fault, Ready, Judged, Taken, Cleared}
 use Rattle.rules.proofs.Lowests.{lowest_same, lowest_or, lowest_before, lowest_after}
 use Rattle.rules.proofs.Faults.{table_late}

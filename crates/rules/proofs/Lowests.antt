@@ -32,10 +32,7 @@ pub lowest_after : (P Q : ℕ → Type 0) (a : Option ℕ) → Lowest P None →
 lowest_after P Q None h k = λ n. ⊎_elim (h n) (k n)
 lowest_after P Q (Some n) h k = (inr k.0, λ i l. ⊎_elim (h i) (k.1 i l))
 
--- of none, and of one more
-pub among_none : (B : ℕ → ℕ → Type 0) → Lowest (Among 0 B) None
-among_none B n h = let a : 1 ≤ h.0 = h.1.0 in let b : h.0 ≤ 0 = h.1.1 in omega arith
-
+-- of one more
 pub among_more : (B : ℕ → ℕ → Type 0) (i : ℕ) (a b : Option ℕ) → Lowest (Among i B) a → Lowest (B (i + 1)) b → Lowest (Among (i + 1) B) (lower a b)
 among_more B i a b h k = lowest_same (λ n. Among i B n ⊎ B (i + 1) n) (Among (i + 1) B) (lower a b)
     (λ n. ⊎_elim (λ x. let up : x.0 ≤ i = x.1.1 in (x.0, (x.1.0, omega arith, x.1.2))) (λ x. (i + 1, (omega arith, omega arith, x))))

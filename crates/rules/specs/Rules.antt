@@ -1,7 +1,7 @@
 -- The rules of refusal: which faults a call has, by number.
 use Rattle.std.specs.Prelude.{◌≡◌, ℕ, ◌<◌, ◌⊎◌, Ok, Err, Result}
 use Rattle.market.specs.declared.refusal.Refusal.{Refusal}
-use Rattle.market.specs.Refusal.{number_of as refusalNumber}
+use Rattle.market.specs.Refusal.{number_of as refusal_number}
 use Rattle.market.specs.Lowest.{Lowest, turned_down}
 use Rattle.qualities.specs.declared.quality.Quality.{Quality}
 use Rattle.qualities.specs.Quality.{number_of}
@@ -30,7 +30,7 @@ Ready x c = Sized x × Named x c × (Untimely x.state (event_of c) → ⊥)
 -- what is known of a call with none of these faults; all of them are below 4
 abbrev pub Fitting : Standing → Asked → Result (Unit {0}) Refusal → Type 0
 Fitting x c (Ok done) = Ready x c
-Fitting x c (Err e) = refusalNumber e < 4
+Fitting x c (Err e) = refusal_number e < 4
 
 -- the faults of one record that it reads: 4, the record is unlawful; 5, a stored reading that it reads has no class; 6, 7 and 8, a factor or
 -- a shape that it reads is above its limit or blank

@@ -19,7 +19,7 @@ fn check_reading<S: Store>(
     number: usize,
     period: u8,
 ) -> Result<(), Refusal>
-    ensures { Lowest (ReadingFault (grid store.now) meter.row number period) (turned_down result) }
+    ensures { Lowest (ReadingFault (S.grid store.now) meter.row number period) (turned_down result) }
 {
     if is_unclassed(meter, store.show(number, S::Period::of_number(period))) {
         Err(Refusal::UnclassedReading)
@@ -35,7 +35,7 @@ fn check_readings<S: Store>(
     number: usize,
     periods: u8,
 ) -> Result<(), Refusal>
-    ensures { Lowest (Among periods (ReadingFault (grid store.now) meter.row number)) (turned_down result) }
+    ensures { Lowest (Among periods (ReadingFault (S.grid store.now) meter.row number)) (turned_down result) }
 {
     let mut found = Ok(());
     for i in 0..periods {
@@ -51,7 +51,7 @@ pub fn check_stored<S: Store>(
     number: usize,
     periods: u8,
 ) -> Result<(), Refusal>
-    ensures { Lowest (StoredFault (grid store.now) periods row number) (turned_down result) }
+    ensures { Lowest (StoredFault (S.grid store.now) periods row number) (turned_down result) }
 {
     match Meter::new(row) {
         Ok(meter) => check_readings(store, meter, number, periods),

@@ -63,7 +63,7 @@ pub enum Task<P> {
 impl<P: Period> Call<P> {
     // What it does to the state of its day.
     pub fn event(self) -> Event
-        ensures { result ≡ event_of (asked number self) }
+        ensures { result ≡ event_of (asked P.number self) }
     {
         match self {
             Call::Settle => Event::Settle,

@@ -24,7 +24,7 @@ pub fn check_meter<S: Store>(
     number: usize,
     period: u8,
 ) -> Result<Meter, Refusal>
-    ensures lowest { Lowest (OneFault state (grid store.now) factors.now shapes.now row number period) (turned_down result) }
+    ensures lowest { Lowest (OneFault state (S.grid store.now) factors.now shapes.now row number period) (turned_down result) }
     ensures meter { MeterOf row result }
 {
     match Meter::new(row) {

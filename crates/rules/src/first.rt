@@ -33,7 +33,7 @@ fn fits<S: Store>(
     factors: &[Option<u16>],
     shapes: &[Option<u32>],
 ) -> bool
-    ensures { Decides result (Sized (standing state sizes (S.Store.meters store.now) (S.Store.periods store.now) (S.Store.grid store.now) rows.now factors.now shapes.now)) }
+    ensures { Decides result (Sized (standing state sizes (S.meters store.now) (S.periods store.now) (S.grid store.now) rows.now factors.now shapes.now)) }
 {
     let periods = sizes.periods as usize;
     1 <= periods
@@ -58,7 +58,7 @@ fn is_entry(classes: u8, class: u8, periods: u8, period: u8) -> bool
 
 // Whether the meter, the class and the period that a call names exist.
 fn is_there<P: Period>(sizes: Sizes, meters: usize, call: Call<P>) -> bool
-    ensures { Decides result (Exists meters sizes.periods (asked number call)) }
+    ensures { Decides result (Exists meters sizes.periods (asked P.number call)) }
 {
     match call {
         Call::Settle | Call::Close => true,
@@ -92,8 +92,8 @@ pub fn check_first<S: Store>(
     shapes: &[Option<u32>],
     call: Call<S::Period>,
 ) -> Result<(), Refusal>
-    ensures lowest { Lowest (FirstFault (standing state sizes (S.Store.meters store.now) (S.Store.periods store.now) (S.Store.grid store.now) rows.now factors.now shapes.now) (asked S.Period.Period.number call)) (turned_down result) }
-    ensures clean { Fitting (standing state sizes (S.Store.meters store.now) (S.Store.periods store.now) (S.Store.grid store.now) rows.now factors.now shapes.now) (asked S.Period.Period.number call) result }
+    ensures lowest { Lowest (FirstFault (standing state sizes (S.meters store.now) (S.periods store.now) (S.grid store.now) rows.now factors.now shapes.now) (asked S.Period.number call)) (turned_down result) }
+    ensures clean { Fitting (standing state sizes (S.meters store.now) (S.periods store.now) (S.grid store.now) rows.now factors.now shapes.now) (asked S.Period.number call) result }
 {
     if !fits(state, sizes, store, rows, factors, shapes) {
         return Err(Refusal::Sizes);

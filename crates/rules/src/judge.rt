@@ -30,8 +30,8 @@ fn judge_settle<S: Store>(
     factors: &[Option<u16>],
     shapes: &[Option<u32>],
 ) -> Result<Task<S::Period>, Refusal>
-    ensures lowest { Lowest (LaterFault (standing state sizes (S.Store.meters store.now) (S.Store.periods store.now) (S.Store.grid store.now) rows.now factors.now shapes.now) settle) (turned_down result) }
-    ensures task { Taken S.Period.Period.number settle result }
+    ensures lowest { Lowest (LaterFault (standing state sizes (S.meters store.now) (S.periods store.now) (S.grid store.now) rows.now factors.now shapes.now) settle) (turned_down result) }
+    ensures task { Taken S.Period.number settle result }
 {
     match check_records(store, factors, shapes, rows, sizes.periods) {
         Err(refusal) => Err(refusal),
@@ -52,8 +52,8 @@ fn judge_deliver<S: Store>(
     delivery: Delivery,
 ) -> Result<Task<S::Period>, Refusal>
     requires { (1 ≤ meter) × (meter ≤ length rows.now) }
-    ensures lowest { Lowest (LaterFault (standing state sizes (S.Store.meters store.now) (S.Store.periods store.now) (S.Store.grid store.now) rows.now factors.now shapes.now) (deliver meter (S.Period.Period.number period) delivery)) (turned_down result) }
-    ensures task { Taken S.Period.Period.number (deliver meter (S.Period.Period.number period) delivery) result }
+    ensures lowest { Lowest (LaterFault (standing state sizes (S.meters store.now) (S.periods store.now) (S.grid store.now) rows.now factors.now shapes.now) (deliver meter (S.Period.number period) delivery)) (turned_down result) }
+    ensures task { Taken S.Period.number (deliver meter (S.Period.number period) delivery) result }
 {
     let number = period.number_of();
     match check_meter(
@@ -89,7 +89,7 @@ fn check_amend<S: Store>(
     row: MeterRow,
 ) -> Result<(), Refusal>
     requires { (1 ≤ meter) × (meter ≤ length rows.now) }
-    ensures { Lowest (LaterFault (standing state sizes (S.Store.meters store.now) (S.Store.periods store.now) (S.Store.grid store.now) rows.now factors.now shapes.now) (amend meter row)) (turned_down result) }
+    ensures { Lowest (LaterFault (standing state sizes (S.meters store.now) (S.periods store.now) (S.grid store.now) rows.now factors.now shapes.now) (amend meter row)) (turned_down result) }
 {
     match state {
         State::Settled => {
@@ -120,8 +120,8 @@ fn judge_amend<S: Store>(
     row: MeterRow,
 ) -> Result<Task<S::Period>, Refusal>
     requires { (1 ≤ meter) × (meter ≤ length rows.now) }
-    ensures lowest { Lowest (LaterFault (standing state sizes (S.Store.meters store.now) (S.Store.periods store.now) (S.Store.grid store.now) rows.now factors.now shapes.now) (amend meter row)) (turned_down result) }
-    ensures task { Taken S.Period.Period.number (amend meter row) result }
+    ensures lowest { Lowest (LaterFault (standing state sizes (S.meters store.now) (S.periods store.now) (S.grid store.now) rows.now factors.now shapes.now) (amend meter row)) (turned_down result) }
+    ensures task { Taken S.Period.number (amend meter row) result }
 {
     match check_amend(state, sizes, store, rows, factors, shapes, meter, row) {
         Err(refusal) => Err(refusal),
@@ -150,7 +150,7 @@ fn check_revision<S: Store>(
     period: u8,
     above: bool,
 ) -> Result<(), Refusal>
-    ensures { Lowest (RevisionFault state (grid store.now) factors.now shapes.now rows.now period above) (turned_down result) }
+    ensures { Lowest (RevisionFault state (S.grid store.now) factors.now shapes.now rows.now period above) (turned_down result) }
 {
     match state {
         State::Settled => earlier(
@@ -173,8 +173,8 @@ fn judge_factor<S: Store>(
     period: S::Period,
     factor: u16,
 ) -> Result<Task<S::Period>, Refusal>
-    ensures lowest { Lowest (LaterFault (standing state sizes (S.Store.meters store.now) (S.Store.periods store.now) (S.Store.grid store.now) rows.now factors.now shapes.now) (refactor class (S.Period.Period.number period) factor)) (turned_down result) }
-    ensures task { Taken S.Period.Period.number (refactor class (S.Period.Period.number period) factor) result }
+    ensures lowest { Lowest (LaterFault (standing state sizes (S.meters store.now) (S.periods store.now) (S.grid store.now) rows.now factors.now shapes.now) (refactor class (S.Period.number period) factor)) (turned_down result) }
+    ensures task { Taken S.Period.number (refactor class (S.Period.number period) factor) result }
 {
     let above = factor > LARGEST_FACTOR;
     match check_revision(
@@ -207,8 +207,8 @@ fn judge_shape<S: Store>(
     period: S::Period,
     shape: u32,
 ) -> Result<Task<S::Period>, Refusal>
-    ensures lowest { Lowest (LaterFault (standing state sizes (S.Store.meters store.now) (S.Store.periods store.now) (S.Store.grid store.now) rows.now factors.now shapes.now) (reshape class (S.Period.Period.number period) shape)) (turned_down result) }
-    ensures task { Taken S.Period.Period.number (reshape class (S.Period.Period.number period) shape) result }
+    ensures lowest { Lowest (LaterFault (standing state sizes (S.meters store.now) (S.periods store.now) (S.grid store.now) rows.now factors.now shapes.now) (reshape class (S.Period.number period) shape)) (turned_down result) }
+    ensures task { Taken S.Period.number (reshape class (S.Period.number period) shape) result }
 {
     let above = shape > LARGEST_SHAPE;
     match check_revision(
@@ -239,8 +239,8 @@ pub fn judge<S: Store>(
     shapes: &[Option<u32>],
     call: Call<S::Period>,
 ) -> Result<Task<S::Period>, Refusal>
-    ensures judged { Judged (standing state sizes (S.Store.meters store.now) (S.Store.periods store.now) (S.Store.grid store.now) rows.now factors.now shapes.now) (asked S.Period.Period.number call) result }
-    ensures cleared { Cleared S.Period.Period.number (standing state sizes (S.Store.meters store.now) (S.Store.periods store.now) (S.Store.grid store.now) rows.now factors.now shapes.now) (asked S.Period.Period.number call) result }
+    ensures judged { Judged (standing state sizes (S.meters store.now) (S.periods store.now) (S.grid store.now) rows.now factors.now shapes.now) (asked S.Period.number call) result }
+    ensures cleared { Cleared S.Period.number (standing state sizes (S.meters store.now) (S.periods store.now) (S.grid store.now) rows.now factors.now shapes.now) (asked S.Period.number call) result }
 {
     match check_first(state, sizes, store, rows, factors, shapes, call) {
         Err(refusal) => Err(refusal),

@@ -86,7 +86,7 @@ pub fn check_place<S: Store>(
     number: usize,
     period: u8,
 ) -> Result<(), Refusal>
-    ensures { Lowest (PlaceFault (grid store.now) factors.now shapes.now meter.row number period) (turned_down result) }
+    ensures { Lowest (PlaceFault (S.grid store.now) factors.now shapes.now meter.row number period) (turned_down result) }
 {
     if is_unclassed(meter, store.show(number, S::Period::of_number(period))) {
         return Err(Refusal::UnclassedReading);
@@ -106,7 +106,7 @@ fn check_periods<S: Store>(
     number: usize,
     periods: u8,
 ) -> Result<(), Refusal>
-    ensures { Lowest (Among periods (PlaceFault (grid store.now) factors.now shapes.now meter.row number)) (turned_down result) }
+    ensures { Lowest (Among periods (PlaceFault (S.grid store.now) factors.now shapes.now meter.row number)) (turned_down result) }
 {
     let mut found = Ok(());
     for i in 0..periods {
@@ -127,7 +127,7 @@ pub fn check_record<S: Store>(
     number: usize,
     periods: u8,
 ) -> Result<(), Refusal>
-    ensures { Lowest (WholeFault (grid store.now) factors.now shapes.now periods row number) (turned_down result) }
+    ensures { Lowest (WholeFault (S.grid store.now) factors.now shapes.now periods row number) (turned_down result) }
 {
     match Meter::new(row) {
         Ok(meter) => check_periods(store, factors, shapes, meter, number, periods),
@@ -143,7 +143,7 @@ pub fn check_records<S: Store>(
     rows: &[MeterRow],
     periods: u8,
 ) -> Result<(), Refusal>
-    ensures { Lowest (Among (length rows.now) (λ m. WholeFault (grid store.now) factors.now shapes.now periods (row_of rows.now m) m)) (turned_down result) }
+    ensures { Lowest (Among (length rows.now) (λ m. WholeFault (S.grid store.now) factors.now shapes.now periods (row_of rows.now m) m)) (turned_down result) }
 {
     let mut found = Ok(());
     for i in 0..rows.len() {

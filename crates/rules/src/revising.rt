@@ -21,7 +21,7 @@ fn check_row<S: Store>(
     number: usize,
     period: u8,
 ) -> Result<(), Refusal>
-    ensures { Lowest (RowFault (grid store.now) factors.now shapes.now period row number) (turned_down result) }
+    ensures { Lowest (RowFault (S.grid store.now) factors.now shapes.now period row number) (turned_down result) }
 {
     match Meter::new(row) {
         Ok(meter) => check_place(store, factors, shapes, meter, number, period),
@@ -37,7 +37,7 @@ pub fn check_period<S: Store>(
     rows: &[MeterRow],
     period: u8,
 ) -> Result<(), Refusal>
-    ensures { Lowest (Among (length rows.now) (λ m. RowFault (grid store.now) factors.now shapes.now period (row_of rows.now m) m)) (turned_down result) }
+    ensures { Lowest (Among (length rows.now) (λ m. RowFault (S.grid store.now) factors.now shapes.now period (row_of rows.now m) m)) (turned_down result) }
 {
     let mut found = Ok(());
     for i in 0..rows.len() {

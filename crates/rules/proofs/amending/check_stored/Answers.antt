@@ -1,5 +1,5 @@
-use Rattle.std.proofs.Common.{◌≡◌, subst, arith, rules}
-use Rattle.market.specs.Lowest.{Lowest, turned_down}
+use Rattle.std.proofs.Common.{◌≡◌, arith, rules}
+use Rattle.market.specs.Lowest.{turned_down}
 use Rattle.rules.specs.Joined.{Among}
 use Rattle.rules.specs.Places.{ReadingFault}
 use Rattle.rules.proofs.Faults.{law_kept, law_broken}
@@ -7,8 +7,8 @@ use Rattle.rules.proofs.amending.check_stored.Goals as goal
 
 pub returns-in-Ok : goal.returns-in-Ok
 returns-in-Ok g c =
-    law_kept c.args.row (Among c.args.periods (ReadingFault (g.S.Store.grid c.args.store.now) c.args.row c.args.number)) (turned_down c.check-readings.result) (search rules)
-    (subst (λ row. Lowest (Among c.args.periods (ReadingFault (g.S.Store.grid c.args.store.now) row c.args.number)) (turned_down c.check-readings.result)) c.in-Ok.ensures.0 c.check-readings.ensures)
+    law_kept c.args.row (Among c.args.periods (ReadingFault (g.S.Store.grid c.args.store.now) c.args.row c.args.number)) (turned_down c.check_readings.result) (search rules)
+    (rw c.in-Ok.ensures.0 at c.check_readings.ensures)
 
 pub returns-in-Err : goal.returns-in-Err
 returns-in-Err g c =

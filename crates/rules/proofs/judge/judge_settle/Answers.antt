@@ -1,18 +1,17 @@
-use Rattle.std.proofs.Common.{Some, None, subst}
+use Rattle.std.proofs.Common.{Some, None}
 use Rattle.market.specs.Refusal.{number_of}
 use Rattle.rules.specs.Standing.{Standing, standing}
 use Rattle.rules.proofs.Judgements.{settle_faults}
-use Rattle.rules.proofs.judge.judge_settle.Given as given
 use Rattle.rules.proofs.judge.judge_settle.Goals as goal
 
-pub returns-in-Err : goal.returns-in-Err
-returns-in-Err g c =
+pub returns-in-Err-clause-lowest : goal.returns-in-Err-clause-lowest
+returns-in-Err-clause-lowest g c =
     let s = c.args.store.now in
     let x : Standing = standing c.args.state c.args.sizes (g.S.Store.meters s) (g.S.Store.periods s) (g.S.Store.grid s) c.args.rows.now c.args.factors.now c.args.shapes.now in
-    record { lowest = settle_faults x (Some (number_of c.in-Err.refusal)) c.in-Err.ensures; task = tt }
+    settle_faults x (Some (number_of c.in-Err.refusal)) c.in-Err.ensures
 
-pub returns-in-Ok : goal.returns-in-Ok
-returns-in-Ok g c =
+pub returns-in-Ok-clause-lowest : goal.returns-in-Ok-clause-lowest
+returns-in-Ok-clause-lowest g c =
     let s = c.args.store.now in
     let x : Standing = standing c.args.state c.args.sizes (g.S.Store.meters s) (g.S.Store.periods s) (g.S.Store.grid s) c.args.rows.now c.args.factors.now c.args.shapes.now in
-    record { lowest = settle_faults x None c.in-Ok.ensures; task = tt }
+    settle_faults x None c.in-Ok.ensures

@@ -1,14 +1,10 @@
-use Rattle.std.proofs.Common.{subst, rules}
-use Rattle.market.specs.Lowest.{Lowest, turned_down}
+use Rattle.std.proofs.Common.{rules}
+use Rattle.market.specs.Lowest.{turned_down}
 use Rattle.rules.specs.Places.{PlaceFault}
-use Rattle.rules.proofs.Faults.{law_kept, law_broken, place_late}
+use Rattle.rules.proofs.Faults.{law_kept}
 use Rattle.rules.proofs.revising.check_row.Goals as goal
 
 pub returns-in-Ok : goal.returns-in-Ok
 returns-in-Ok g c =
-    law_kept c.args.row (PlaceFault (g.S.Store.grid c.args.store.now) c.args.factors.now c.args.shapes.now c.args.row c.args.number c.args.period) (turned_down c.check-place.result) (search rules)
-    (subst (λ row. Lowest (PlaceFault (g.S.Store.grid c.args.store.now) c.args.factors.now c.args.shapes.now row c.args.number c.args.period) (turned_down c.check-place.result)) c.in-Ok.ensures.0 c.check-place.ensures)
-
-pub returns-in-Err : goal.returns-in-Err
-returns-in-Err g c =
-    law_broken c.args.row (PlaceFault (g.S.Store.grid c.args.store.now) c.args.factors.now c.args.shapes.now c.args.row c.args.number c.args.period) _ (search rules) (search rules) (λ k y. place_late (g.S.Store.grid c.args.store.now) c.args.factors.now c.args.shapes.now c.args.row c.args.number c.args.period k y)
+    law_kept c.args.row (PlaceFault (g.S.Store.grid c.args.store.now) c.args.factors.now c.args.shapes.now c.args.row c.args.number c.args.period) (turned_down c.check_place.result) (search rules)
+    (rw c.in-Ok.ensures.0 at c.check_place.ensures)
