@@ -11,25 +11,25 @@ use Rattle.settlement.proofs.acts.act_deliver.Goals as goal
 
 pub returns-in-Settled : goal.returns-in-Settled
 returns-in-Settled g c =
-    let first : ReportMeaning g.row.Q-Amount.Denot = record { algebra = g.Amount.Amount-1.algebra; figure = g.Amount.Amount-1.figure; rules = g.Q.Report.rules c.args.first.now } in
-    let second : ReportMeaning g.row.R-Amount.Denot = record { algebra = g.Amount.Amount-2.algebra; figure = g.Amount.Amount-2.figure; rules = g.R.Report.rules c.args.second.now } in
+    let first : ReportMeaning g.row.Q-Amount.Denot = record { algebra = g.Q.Amount.Amount.algebra; figure = g.Q.Amount.Amount.figure; rules = g.Q.Report.rules c.args.first.now } in
+    let second : ReportMeaning g.row.R-Amount.Denot = record { algebra = g.R.Amount.Amount.algebra; figure = g.R.Amount.Amount.figure; rules = g.R.Report.rules c.args.second.now } in
     let m = c.args.meter in
-    let p = g.Period.Period.number c.args.period in
+    let p = g.S.Period.Period.number c.args.period in
     let rows = c.args.rows.now in
     let fs = c.args.factors.now in
     let sh = c.args.shapes.now in
     let before : Grid = g.S.Store.grid c.args.store.now in
     let after : Grid = g.S.Store.grid c.put.new.self in
     let put : (i j : ℕ) → after i j ≡ with_place before m p c.args.reading i j = (c.put.ensures.taken (search rules)).1 in
-    let number : c.number-of-number.result ≡ p = c.number-of-number.ensures in
-    let was : c.entry-of-old.result ≡ entry_by fs sh (row_of rows m) (before m p) p =
-    c.entry-of-old.ensures ∙ ap (λ o. entry_by fs sh (row_of rows m) o c.number-of-number.result) c.show-stored.ensures.value ∙ ap (entry_by fs sh (row_of rows m) (before m p)) number in
-    let is : c.entry-of-new.result ≡ entry_by fs sh (row_of rows m) (Some c.args.reading) p =
-    c.entry-of-new.ensures ∙ ap (entry_by fs sh (row_of rows m) (Some c.args.reading)) number in
-    let one : Move first.algebra first.rules c.args.day.now.periods p c.entry-of-old.result c.entry-of-new.result c.args.first-totals.now c.move-total.new.cells =
-    moved_fits first c.args.day.now.periods c.number-of-number.result p c.entry-of-old.result c.entry-of-new.result c.args.first-totals.now c.move-total.new.cells c.move-total.result number (search rules) c.move-total.ensures in
-    let two : Move second.algebra second.rules c.args.day.now.periods p c.entry-of-old.result c.entry-of-new.result c.args.second-totals.now c.move-total-in-Settled.new.cells =
-    moved_fits second c.args.day.now.periods c.number-of-number.result p c.entry-of-old.result c.entry-of-new.result c.args.second-totals.now c.move-total-in-Settled.new.cells c.move-total-in-Settled.result number (search rules) c.move-total-in-Settled.ensures in
+    let number : c.number_of-number.result ≡ p = c.number_of-number.ensures in
+    let was : c.entry_of-old.result ≡ entry_by fs sh (row_of rows m) (before m p) p =
+    c.entry_of-old.ensures ∙ ap (λ o. entry_by fs sh (row_of rows m) o c.number_of-number.result) c.show-stored.ensures.value ∙ ap (entry_by fs sh (row_of rows m) (before m p)) number in
+    let is : c.entry_of-new.result ≡ entry_by fs sh (row_of rows m) (Some c.args.reading) p =
+    c.entry_of-new.ensures ∙ ap (entry_by fs sh (row_of rows m) (Some c.args.reading)) number in
+    let one : Move first.algebra first.rules c.args.day.now.periods p c.entry_of-old.result c.entry_of-new.result c.args.first_totals.now c.move_total.new.cells =
+    moved_fits first c.args.day.now.periods c.number_of-number.result p c.entry_of-old.result c.entry_of-new.result c.args.first_totals.now c.move_total.new.cells c.move_total.result number (search rules) c.move_total.ensures in
+    let two : Move second.algebra second.rules c.args.day.now.periods p c.entry_of-old.result c.entry_of-new.result c.args.second_totals.now c.move_total-in-Settled.new.cells =
+    moved_fits second c.args.day.now.periods c.number_of-number.result p c.entry_of-old.result c.entry_of-new.result c.args.second_totals.now c.move_total-in-Settled.new.cells c.move_total-in-Settled.result number (search rules) c.move_total-in-Settled.ensures in
     record {
       led = search rules;
       state = search rules;
@@ -46,6 +46,6 @@ returns-in-Settled g c =
       second_size = search rules;
       first_moves = (λ _. one.two, λ ne. absurd (ne c.in-Settled.is));
       second_moves = (λ _. two.two, λ ne. absurd (ne c.in-Settled.is));
-      first_follows = λ _. delivered_right first c.args.day.now.periods rows fs sh m p c.args.reading before after c.entry-of-old.result c.entry-of-new.result c.args.first-totals.now c.move-total.new.cells (search rules) (search rules) put was is one;
-      second_follows = λ _. delivered_right second c.args.day.now.periods rows fs sh m p c.args.reading before after c.entry-of-old.result c.entry-of-new.result c.args.second-totals.now c.move-total-in-Settled.new.cells (search rules) (search rules) put was is two;
+      first_follows = λ _. delivered_right first c.args.day.now.periods rows fs sh m p c.args.reading before after c.entry_of-old.result c.entry_of-new.result c.args.first_totals.now c.move_total.new.cells (search rules) (search rules) put was is one;
+      second_follows = λ _. delivered_right second c.args.day.now.periods rows fs sh m p c.args.reading before after c.entry_of-old.result c.entry_of-new.result c.args.second_totals.now c.move_total-in-Settled.new.cells (search rules) (search rules) put was is two;
     }

@@ -12,10 +12,10 @@ use Rattle.settlement.proofs.changes.act_shape.Goals as goal
 
 pub returns-in-Settled : goal.returns-in-Settled
 returns-in-Settled g c =
-    let first : ReportMeaning g.row.Q-Amount.Denot = record { algebra = g.Amount.Amount-1.algebra; figure = g.Amount.Amount-1.figure; rules = g.Q.Report.rules c.args.first.now } in
-    let second : ReportMeaning g.row.R-Amount.Denot = record { algebra = g.Amount.Amount-2.algebra; figure = g.Amount.Amount-2.figure; rules = g.R.Report.rules c.args.second.now } in
+    let first : ReportMeaning g.row.Q-Amount.Denot = record { algebra = g.Q.Amount.Amount.algebra; figure = g.Q.Amount.Amount.figure; rules = g.Q.Report.rules c.args.first.now } in
+    let second : ReportMeaning g.row.R-Amount.Denot = record { algebra = g.R.Amount.Amount.algebra; figure = g.R.Amount.Amount.figure; rules = g.R.Report.rules c.args.second.now } in
     let k = c.args.class in
-    let p = g.Period.Period.number c.args.period in
+    let p = g.S.Period.Period.number c.args.period in
     let value = c.args.shape in
     let rows = c.args.rows.now in
     let fs = c.args.factors.now in
@@ -23,13 +23,13 @@ returns-in-Settled g c =
     let P = c.args.day.now.periods in
     let grid : Grid = g.S.Store.grid c.args.store.now in
     let revision : Revision = Shape k value in
-    let number : c.number-of-number.result ≡ p = c.number-of-number.ensures in
+    let number : c.number_of-number.result ≡ p = c.number_of-number.ensures in
     let reach : Reaches revision fs sh p = (search rules, search rules, search rules, search rules) in
     let has : HasEntry 32 sh k p = (search rules, search rules, search rules, omega arith) in
     let set : c.set_entry.new.table ≡ with_entry 32 sh k p value =
-    entry_set 32 sh k c.number-of-number.result p value c.set_entry.new.table c.set_entry.result number has c.set_entry.ensures in
-    let one = revised_fits first P grid rows fs sh revision c.number-of-number.result p c.args.first-totals.now c.revise-totals.new.cells c.revise-totals.result number (search rules) c.revise-totals.ensures in
-    let two = revised_fits second P grid rows fs sh revision c.number-of-number.result p c.args.second-totals.now c.revise-totals-in-Settled.new.cells c.revise-totals-in-Settled.result number (search rules) c.revise-totals-in-Settled.ensures in
+    entry_set 32 sh k c.number_of-number.result p value c.set_entry.new.table c.set_entry.result number has c.set_entry.ensures in
+    let one = revised_fits first P grid rows fs sh revision c.number_of-number.result p c.args.first_totals.now c.revise_totals.new.cells c.revise_totals.result number (search rules) c.revise_totals.ensures in
+    let two = revised_fits second P grid rows fs sh revision c.number_of-number.result p c.args.second_totals.now c.revise_totals-in-Settled.new.cells c.revise_totals-in-Settled.result number (search rules) c.revise_totals-in-Settled.ensures in
     record {
       led = tt;
       state = search rules;
@@ -46,6 +46,6 @@ returns-in-Settled g c =
       second_size = search rules;
       first_moves = (λ _. one.1, λ ne. absurd (ne c.in-Settled.is));
       second_moves = (λ _. two.1, λ ne. absurd (ne c.in-Settled.is));
-      first_follows = λ _ right. subst (λ (table : List (Option ℕ)). Holds first.algebra first.rules (entries_of grid rows fs table) (length rows) P c.revise-totals.new.cells) (sym set) (one.0 reach right);
-      second_follows = λ _ right. subst (λ (table : List (Option ℕ)). Holds second.algebra second.rules (entries_of grid rows fs table) (length rows) P c.revise-totals-in-Settled.new.cells) (sym set) (two.0 reach right);
+      first_follows = λ _ right. subst (λ (table : List (Option ℕ)). Holds first.algebra first.rules (entries_of grid rows fs table) (length rows) P c.revise_totals.new.cells) (sym set) (one.0 reach right);
+      second_follows = λ _ right. subst (λ (table : List (Option ℕ)). Holds second.algebra second.rules (entries_of grid rows fs table) (length rows) P c.revise_totals-in-Settled.new.cells) (sym set) (two.0 reach right);
     }
