@@ -1,5 +1,5 @@
 -- The totals follow an amendment, period by period.
-use Rattle.std.proofs.Common.{◌≡◌, ℕ, ◌+◌, ◌-◌, ◌<◌, ◌≤◌, ◌⊎◌, List, length, get_or, set, Option, sym, refl, ap, ◌∙◌, subst, inl, inr, ⊎_elim, arith, get_or-set_other, get_or-set_same}
+use Rattle.std.proofs.Common.{◌≡◌, ℕ, ◌+◌, ◌-◌, ◌<◌, ◌≤◌, List, length, get_or, set, Option, sym, refl, ap, ◌∙◌, subst, inl, inr, ⊎_elim, arith, get_or-set_other, get_or-set_same}
 use Rattle.std.proofs.lemmas.Bool.{cases_eq, cases_lt}
 use Rattle.meters.specs.declared.row.MeterRow.{MeterRow}
 use Rattle.stores.specs.Grid.{Grid}
@@ -31,7 +31,7 @@ module _ {M : Type 0} {a : Algebra M} (laws : Laws a) (rules : Rules M) (periods
       let before = entries_of grid rows factors shapes in
       let after = entries_of grid (set rows (m - 1) new) factors shapes in
       let back : m - 1 + 1 ≡ m = omega arith in
-      let old-is : entry_by factors shapes old (grid m i) i ≡ before (m - 1) i =
+      let old_is : entry_by factors shapes old (grid m i) i ≡ before (m - 1) i =
       ap (λ row. entry_by factors shapes row (grid m i) i) (sym was) ∙ ap (λ k. entry_by factors shapes (row_of rows m) (grid k i) i) (sym back) in
       let new_is : entry_by factors shapes new (grid m i) i ≡ after (m - 1) i =
       ap (λ row. entry_by factors shapes row (grid m i) i) (sym (get_or-set_same rows (m - 1) new no_row (omega arith)))
@@ -39,7 +39,7 @@ module _ {M : Type 0} {a : Algebra M} (laws : Laws a) (rules : Rules M) (periods
       periods_more laws rules (length rows) periods before after (m - 1) i cells next (omega arith)
       (λ j p _ _ d. ap (λ row. entry_by factors shapes row (grid (j + 1) p) p) (get_or-set_other rows (m - 1) j new no_row d))
       (subst (λ e. Replaced a rules periods i (before (m - 1) i) e cells next) new_is
-      (subst (λ e. Replaced a rules periods i e (entry_by factors shapes new (grid m i) i) cells next) old-is move.replaced))
+      (subst (λ e. Replaced a rules periods i e (entry_by factors shapes new (grid m i) i) cells next) old_is move.replaced))
       (h rows some few was holds)
 
   pub amend_all : (i : ℕ) (first cells : List M) → periods < i → AmendFollowed i first cells → AmendRight a rules periods grid factors shapes m old new first cells

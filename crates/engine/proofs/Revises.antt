@@ -1,12 +1,12 @@
 -- The totals follow a change of a factor or a shape, meter by meter.
-use Rattle.std.proofs.Common.{◌≡◌, ℕ, ◌+◌, ◌<◌, ◌≤◌, List, length, get_or, Some, Option, sym, refl, ap, ◌∙◌, subst, arith}
+use Rattle.std.proofs.Common.{◌≡◌, ℕ, ◌+◌, ◌<◌, ◌≤◌, List, length, get_or, Option, sym, refl, ap, ◌∙◌, subst, arith}
 use Rattle.readings.specs.declared.reading.Reading.{Reading}
 use Rattle.meters.specs.declared.row.MeterRow.{MeterRow}
 use Rattle.stores.specs.Grid.{Grid}
 use Rattle.amounts.specs.Laws.{Algebra, Laws}
 use Rattle.totals.specs.declared.entry.Entry.{Entry}
 use Rattle.totals.specs.Rules.{Rules}
-use Rattle.totals.specs.Holds.{Entries, Holds, Replaced, InPeriod}
+use Rattle.totals.specs.Holds.{Entries, Replaced}
 use Rattle.totals.specs.Moving.{Move}
 use Rattle.totals.proofs.Chains.{meters_none, meters_more, meters_passed, meters_all}
 use Rattle.rules.specs.Tables.{no_row, entry_in, factor_of, shape_of}

@@ -1,5 +1,5 @@
 -- A change of one factor or one shape in a period.
-use Rattle.std.specs.Prelude.{◌≡◌, ℕ, ◌*◌, ◌≤◌, List, length, set, Some, Option, slice_set}
+use Rattle.std.specs.Prelude.{◌≡◌, ℕ, ◌*◌, ◌≤◌, List, length, Some, Option, slice_set}
 use Rattle.readings.specs.declared.reading.Reading.{Reading}
 use Rattle.meters.specs.declared.row.MeterRow.{MeterRow}
 use Rattle.totals.specs.declared.entry.Entry.{Entry}

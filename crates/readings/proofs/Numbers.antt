@@ -3,7 +3,7 @@ use Rattle.std.proofs.Common.{◌≡◌, ℕ, Bool, true, false, Some, None, Ok,
 use Rattle.std.specs.Result.{result_ok}
 use Rattle.std.proofs.lemmas.Bool.Decides.{nat_tests}
 use Rattle.market.specs.declared.refusal.Refusal.{Refusal}
-use Rattle.market.specs.Refusal.{number_of as refusalNumber}
+use Rattle.market.specs.Refusal.{number_of as refusal_number}
 use Rattle.qualities.specs.declared.quality.Quality.{Quality}
 use Rattle.readings.specs.declared.reading.Reading.{Reading}
 use Rattle.readings.specs.declared.delivery.Delivery.{Delivery}
@@ -44,7 +44,7 @@ none_of d (Some q) n e h =
 pub accepted_is : (d : Delivery) (r : Result Reading Refusal) → Accepted d largest_volume r → result_ok r ≡ reading_of d.stamp d.volume d.quality
 unfolding reading_of
 accepted_is d (Ok x) h = sym (reading_back x) ∙ rw (h.reading.0, h.reading.1, h.reading.2)
-accepted_is d (Err e) h = sym (none_of d (quality_of d.quality) (refusalNumber e) refl h.judged.0)
+accepted_is d (Err e) h = sym (none_of d (quality_of d.quality) (refusal_number e) refl h.judged.0)
 
 no_stamp_with : (v : ℕ) (o : Option Quality) → reading_with 0 v o ≡ None
 no_stamp_with v None = refl

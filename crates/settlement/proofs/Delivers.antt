@@ -1,5 +1,5 @@
 -- The totals follow a delivery.
-use Rattle.std.proofs.Common.{◌≡◌, ℕ, ◌+◌, ◌-◌, ◌*◌, ◌<◌, ◌≤◌, List, length, get_or, Some, Ok, Err, Option, Result, sym, ap, ◌∙◌, subst, arith}
+use Rattle.std.proofs.Common.{◌≡◌, ℕ, ◌+◌, ◌-◌, ◌*◌, ◌≤◌, List, length, get_or, Some, Ok, Err, Option, Result, sym, ap, ◌∙◌, subst, arith}
 use Rattle.market.specs.declared.refusal.Refusal.{Refusal}
 use Rattle.readings.specs.declared.reading.Reading.{Reading}
 use Rattle.meters.specs.declared.row.MeterRow.{MeterRow}

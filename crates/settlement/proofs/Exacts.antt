@@ -1,5 +1,5 @@
 -- The totals of a settled day lose nothing.
-use Rattle.std.proofs.Common.{◌≡◌, ℕ, ◌+◌, ◌-◌, ◌^◌, ◌<◌, ◌≤◌, Bool, true, false, cond, not, ◌||◌, eqb, ◌⊎◌, List, length, get_or, IfSome, Some, None, Option, unwrap_or, sym, refl, ap, ◌∙◌, subst, inl, inr, arith}
+use Rattle.std.proofs.Common.{◌≡◌, ℕ, ◌+◌, ◌-◌, ◌^◌, ◌<◌, ◌≤◌, Bool, true, false, cond, not, ◌||◌, eqb, length, get_or, IfSome, Some, None, Option, sym, refl, ap, inl, inr, arith}
 use Rattle.readings.specs.declared.reading.Reading.{Reading}
 use Rattle.meters.specs.declared.row.MeterRow.{MeterRow}
 use Rattle.meters.specs.declared.row.Segment.{Segment}
@@ -8,15 +8,14 @@ use Rattle.meters.specs.declared.row.Quantity.{Quantity}
 use Rattle.meters.specs.declared.row.Quantity.TheVariants.{Import, Export}
 use Rattle.meters.specs.declared.used.UsedReading.{UsedReading}
 use Rattle.meters.specs.Lawful.{is_lawful}
-use Rattle.meters.specs.Used.{is_energised, used, default_of, used_of}
-use Rattle.stores.specs.Grid.{Grid}
+use Rattle.meters.specs.Used.{is_energised, used, default_of}
 use Rattle.totals.specs.Exactness.{EntryFits}
 use Rattle.rules.specs.Tables.{row_of, no_row, factor_of, shape_of}
 use Rattle.rules.specs.Asked.{settle}
-use Rattle.rules.specs.Standing.{Standing, IsMeter, IsPeriod}
+use Rattle.rules.specs.Standing.{Standing}
 use Rattle.rules.specs.Places.{Above}
 use Rattle.rules.specs.Rules.{RecordFault}
-use Rattle.engine.specs.Entries.{without_shape, used_by, entry_with, entries_of}
+use Rattle.engine.specs.Entries.{without_shape, used_by, entries_of}
 use Rattle.settlement.specs.Runs.{Sound}
 
 -- a volume of 32 bits, if there is one

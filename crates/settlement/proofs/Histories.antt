@@ -1,12 +1,12 @@
 -- A history with one call more, and the run over it.
-use Rattle.std.proofs.Common.{◌≡◌, ℕ, ◌+◌, ◌<◌, ◌⊎◌, List, [], ◌∷◌, ◌++◌, length, get_or, take, Ok, Err, sym, refl, ap, ◌∙◌, subst, inl, inr, ⊎_elim, arith}
+use Rattle.std.proofs.Common.{◌≡◌, ℕ, ◌+◌, ◌<◌, List, [], ◌∷◌, ◌++◌, length, get_or, take, Ok, Err, sym, refl, ap, ◌∙◌, subst, ⊎_elim, arith}
 use Rattle.std.specs.List.{ContainsAt as Has}
 use Rattle.std.proofs.lemmas.List.{take_more, take_all, length-take-le}
 use Rattle.std.proofs.ByRecursion.{has_push_cases}
 use Rattle.std.proofs.lemmas.List.Sums.{fold_push}
 use Rattle.rules.specs.declared.call.Call.{Call}
 use Rattle.rules.specs.declared.state.State.{State}
-use Rattle.rules.specs.declared.state.State.TheVariants.{New, Settled, Final}
+use Rattle.rules.specs.declared.state.State.TheVariants.{New}
 use Rattle.rules.specs.Asked.{Asked, settle, deliver, amend, factor, shape, close, asked}
 use Rattle.settlement.specs.declared.day.Outcome.TheVariants.{Done}
 use Rattle.settlement.specs.World.{Setting, World}

@@ -1,5 +1,5 @@
 -- One call more keeps what a run has.
-use Rattle.std.proofs.Common.{◌≡◌, ℕ, ◌-◌, ◌≤◌, Bool, true, false, ◌⊎◌, List, [], ◌∷◌, ◌++◌, length, is_err, Some, None, Ok, Err, Option, sym, refl, ap, ◌∙◌, subst, inl, inr, ⊎_elim, arith, length-set}
+use Rattle.std.proofs.Common.{◌≡◌, ℕ, ◌-◌, ◌≤◌, Bool, true, false, List, [], ◌∷◌, ◌++◌, length, is_err, Some, None, Ok, Err, sym, refl, ap, ◌∙◌, subst, inl, inr, ⊎_elim, arith, length-set}
 use Rattle.std.specs.List.{ContainsAt as Has}
 use Rattle.market.specs.Lowest.{Lowest}
 use Rattle.readings.specs.declared.reading.Reading.{Reading}
@@ -22,7 +22,7 @@ use Rattle.settlement.specs.declared.day.Outcome.{Outcome}
 use Rattle.settlement.specs.declared.day.Outcome.TheVariants.{Done, Superseded}
 use Rattle.settlement.specs.World.{ReportMeaning, Setting, World, sizes_of, standing_of}
 use Rattle.settlement.specs.Steps.{Answer, event_of_deed, rows_after, factors_after, shapes_after, Right, Acted, Answered, Step}
-use Rattle.settlement.specs.Book.{Noted, note, Book, History, noted, recorded, entered, advanced, Foremost, Shows, Superseding}
+use Rattle.settlement.specs.Book.{note, Book, History, noted, recorded, entered, advanced, Foremost, Shows, Superseding}
 use Rattle.settlement.specs.Runs.{Fair, Kept, Moved, BookTotals, BookExact, Sound, book_standing}
 use Rattle.settlement.proofs.Places.{place_cases}
 use Rattle.settlement.proofs.Foremosts.{foremost_other, foremost_takes, foremost_keeps, leads_free, led_behind, shows_one}

@@ -1,5 +1,5 @@
 -- Nothing that counts on a settled day is missing or above its limit, and each call leaves it so.
-use Rattle.std.proofs.Common.{◌≡◌, ℕ, ◌-◌, ◌<◌, ◌≤◌, ◌⊎◌, List, length, get_or, Some, None, Option, sym, refl, ap, ◌∙◌, subst, inl, inr, ⊎_elim, arith, length-set, get_or-set_other, get_or-set_same}
+use Rattle.std.proofs.Common.{◌≡◌, ℕ, ◌-◌, ◌<◌, ◌≤◌, List, length, Some, None, Option, sym, refl, ap, ◌∙◌, subst, inl, inr, ⊎_elim, arith, length-set, get_or-set_other, get_or-set_same}
 use Rattle.std.proofs.lemmas.Bool.{cases_eq}
 use Rattle.market.specs.Lowest.{Lowest}
 use Rattle.readings.specs.declared.reading.Reading.{Reading}
@@ -10,9 +10,9 @@ use Rattle.meters.specs.Class.{class_at}
 use Rattle.stores.specs.Grid.{Grid, with_place}
 use Rattle.rules.specs.declared.state.State.TheVariants.{Settled}
 use Rattle.rules.specs.Tables.{row_of, no_row, with_row, factor_of, shape_of}
-use Rattle.rules.specs.Asked.{Asked, settle, deliver, amend, factor, shape}
+use Rattle.rules.specs.Asked.{settle, deliver, amend, factor, shape}
 use Rattle.rules.specs.Standing.{Standing, standing, IsMeter}
-use Rattle.rules.specs.Places.{Unclassed, TableFault, TablesFault, ReadingFault}
+use Rattle.rules.specs.Places.{Unclassed, TableFault, TablesFault}
 use Rattle.rules.specs.Rules.{Ready, RecordFault, LaterFault, Fault}
 use Rattle.engine.specs.Revision.{with_entry}
 use Rattle.engine.proofs.Tables.{set_entry, set_others}
@@ -92,13 +92,13 @@ module _ (x : Standing) (sound : Sound x) where
       (λ tables. sound n (fault_of x i n met (inr (inr (tables.0, (tables.1.0, back (row_of x.rows i) tables.0 n tables.1.1))))))))
 
   -- a factor within its limit has no fault, so that what is left is the shape's, and the other way round
-  factor_left : (row : MeterRow) (f n : ℕ) (old shapeNow : Option ℕ) → (9999 < f → ⊥) → TableFault row (Some f) shapeNow n → TableFault row old shapeNow n
-  factor_left row f n old shapeNow low = ⊎_elim
+  factor_left : (row : MeterRow) (f n : ℕ) (old shape_now : Option ℕ) → (9999 < f → ⊥) → TableFault row (Some f) shape_now n → TableFault row old shape_now n
+  factor_left row f n old shape_now low = ⊎_elim
       (λ y. inl (y.0, ⊎_elim (λ above. absurd (low above)) inr y.1))
       (⊎_elim (λ y. absurd y.1) (λ y. inr (inr y)))
 
-  shape_left : (row : MeterRow) (v n : ℕ) (factorNow old : Option ℕ) → (1000000000 < v → ⊥) → TableFault row factorNow (Some v) n → TableFault row factorNow old n
-  shape_left row v n factorNow old low = ⊎_elim
+  shape_left : (row : MeterRow) (v n : ℕ) (factor_now old : Option ℕ) → (1000000000 < v → ⊥) → TableFault row factor_now (Some v) n → TableFault row factor_now old n
+  shape_left row v n factor_now old low = ⊎_elim
       (λ y. inl (y.0, ⊎_elim inl (λ above. absurd (low above.1)) y.1))
       (⊎_elim (λ y. inr (inl y)) (λ y. absurd y.2))
 

@@ -1,5 +1,5 @@
 -- The book: it is fed only which calls were made, what was given with them, and what they were answered.
-use Rattle.std.specs.Prelude.{◌≡◌, ℕ, List, [], ◌∷◌, ◌++◌, Some, None, Ok, Err, fold, Option}
+use Rattle.std.specs.Prelude.{ℕ, List, [], ◌∷◌, ◌++◌, Some, None, Ok, Err, fold, Option}
 use Rattle.std.specs.List.{ContainsAt as Has}
 use Rattle.readings.specs.declared.reading.Reading.{Reading}
 use Rattle.readings.specs.Delivery.{Reads}

@@ -1,4 +1,4 @@
-use Rattle.std.proofs.Common.{◌≡◌, ◌+◌, get_or, refl, ap, ◌∙◌, arith, rules}
+use Rattle.std.proofs.Common.{◌≡◌, ◌+◌, get_or, refl, ap, ◌∙◌, rules}
 use Rattle.meters.specs.declared.row.MeterRow.{MeterRow}
 use Rattle.totals.specs.Moving.{Move}
 use Rattle.rules.specs.Tables.{no_row}

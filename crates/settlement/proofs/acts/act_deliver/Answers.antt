@@ -1,7 +1,5 @@
 use Rattle.std.proofs.Common.{◌≡◌, ℕ, Some, ap, ◌∙◌, rules}
-use Rattle.meters.specs.declared.row.MeterRow.{MeterRow}
 use Rattle.stores.specs.Grid.{Grid, with_place}
-use Rattle.totals.specs.declared.entry.Entry.{Entry}
 use Rattle.totals.specs.Moving.{Move}
 use Rattle.rules.specs.Tables.{row_of}
 use Rattle.engine.specs.Entries.{entry_by}

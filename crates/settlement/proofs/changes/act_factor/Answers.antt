@@ -1,4 +1,4 @@
-use Rattle.std.proofs.Common.{◌≡◌, ℕ, ◌*◌, ◌≤◌, List, length, Option, sym, refl, subst, arith, rules}
+use Rattle.std.proofs.Common.{◌≡◌, ℕ, List, length, Option, sym, refl, subst, arith, rules}
 use Rattle.stores.specs.Grid.{Grid}
 use Rattle.totals.specs.Holds.{Holds}
 use Rattle.rules.specs.Tables.{HasEntry}

@@ -1,10 +1,9 @@
-use Rattle.std.proofs.Common.{◌≡◌, ℕ, ◌+◌, List, [], ◌∷◌, ◌++◌, length, take, vec_items, vec_len, vec_capacity, sym, refl, ap, ◌∙◌, subst, arith, rules}
+use Rattle.std.proofs.Common.{◌+◌, List, take, vec_items, sym, subst, arith, rules}
 use Rattle.std.proofs.lemmas.List.{length_push}
-use Rattle.settlement.specs.World.{Setting, World, setting, world}
+use Rattle.settlement.specs.World.{World, setting, world}
 use Rattle.settlement.specs.Steps.{Answer}
 use Rattle.settlement.specs.Runs.{history_of}
 use Rattle.settlement.proofs.Histories.{RanFrom, ran_none, ran_more, ran_all}
-use Rattle.settlement.proofs.replay.run_all.Given as given
 use Rattle.settlement.proofs.replay.run_all.Goals as goal
 
 pub loop-i-init : goal.loop-i-init

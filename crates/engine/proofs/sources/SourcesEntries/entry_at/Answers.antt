@@ -1,4 +1,4 @@
-use Rattle.std.proofs.Common.{◌∙◌, arith, rules}
+use Rattle.std.proofs.Common.{◌∙◌, arith}
 use Rattle.engine.proofs.Nobody.{nobody}
 use Rattle.engine.proofs.sources.SourcesEntries.entry_at.Goals as goal
 
