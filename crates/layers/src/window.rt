@@ -6,7 +6,7 @@ ghost use Rattle.layers.specs.Window.{window_of, meters_at};
 use market::clock::SettlementPeriod;
 use market::refusal::Refusal;
 use readings::reading::Reading;
-use stores::period::{Period, Period as _};
+use stores::period::Period;
 use stores::store::Store;
 
 // One period of the store below, which may be held or lent. It has no meters where that store lacks the period.
