@@ -1,0 +1,5 @@
+// A worked case of a day, run as a test.
+#![tactic(auto)]
+
+#[cfg(test)]
+mod calls;
