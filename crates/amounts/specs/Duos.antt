@@ -22,6 +22,14 @@ no_duos = record {
   estimated_fits = lit< tt;
 }
 
+-- an amount whose figures are each made of the two figures of that kind
+pub record DuosZipped (makes : ℕ → ℕ → ℕ → Type 0) (x y r : DuosAmount) : Type 0 where
+  pub volume : makes x.volume y.volume r.volume
+  pub energised : makes x.energised y.energised r.energised
+  pub deenergised : makes x.deenergised y.deenergised r.deenergised
+  pub actual : makes x.actual y.actual r.actual
+  pub estimated : makes x.estimated y.estimated r.estimated
+
 abbrev pub more_duos : DuosAmount → DuosAmount → DuosAmount
 more_duos x y = record {
   volume = add64 x.volume y.volume;

@@ -21,6 +21,7 @@ impl Amount for BmUnitAmount {
         }
     }
 
+    // Figure by figure here and below: the loss is signed, so that one function for both takes two closures and is no shorter.
     fn add(self, other: BmUnitAmount) -> BmUnitAmount {
         BmUnitAmount {
             volume: self.volume.wrapping_add(other.volume),

@@ -1,8 +1,24 @@
 // Amounts of the DUoS report added and taken away, figure by figure.
-ghost use Rattle.amounts.specs.Duos.{duos, duos_laws, duos_figure, duos_exact};
+ghost use Rattle.amounts.specs.Duos.{DuosZipped, duos, duos_laws, duos_figure, duos_exact};
 
 use crate::amount::Amount;
 use crate::duos_amount::DuosAmount;
+
+impl DuosAmount {
+    // The amount whose figures are each made of the two figures of that kind.
+    fn zip<F: Fn(u64, u64) -> u64>(self, other: DuosAmount, make: F) -> DuosAmount
+        requires { F.IsAlwaysCallable make }
+        ensures { DuosZipped (F.post make) self other result }
+    {
+        DuosAmount {
+            volume: make(self.volume, other.volume),
+            energised: make(self.energised, other.energised),
+            deenergised: make(self.deenergised, other.deenergised),
+            actual: make(self.actual, other.actual),
+            estimated: make(self.estimated, other.estimated),
+        }
+    }
+}
 
 impl Amount for DuosAmount {
     ghost algebra = { duos };
@@ -24,22 +40,10 @@ impl Amount for DuosAmount {
     }
 
     fn add(self, other: DuosAmount) -> DuosAmount {
-        DuosAmount {
-            volume: self.volume.wrapping_add(other.volume),
-            energised: self.energised.wrapping_add(other.energised),
-            deenergised: self.deenergised.wrapping_add(other.deenergised),
-            actual: self.actual.wrapping_add(other.actual),
-            estimated: self.estimated.wrapping_add(other.estimated),
-        }
+        self.zip(other, |x, y| x.wrapping_add(y))
     }
 
     fn take_away(self, other: DuosAmount) -> DuosAmount {
-        DuosAmount {
-            volume: self.volume.wrapping_sub(other.volume),
-            energised: self.energised.wrapping_sub(other.energised),
-            deenergised: self.deenergised.wrapping_sub(other.deenergised),
-            actual: self.actual.wrapping_sub(other.actual),
-            estimated: self.estimated.wrapping_sub(other.estimated),
-        }
+        self.zip(other, |x, y| x.wrapping_sub(y))
     }
 }

@@ -11,13 +11,14 @@ use records::record_store::RecordStore;
 use reports::bm_unit::BmUnitReport;
 use reports::duos::DuosReport;
 use rules::call::Call;
+use rules::revision::Revision;
 use settlement::day::{Day, Outcome};
+use settlement::inputs::Inputs;
 use settlement::replay::replay;
 use std::test::Fail;
+use totals::account::Account;
 
-// The number by which the cases tell that a delivery was superseded.
-const SUPERSEDED: u8 = 100;
-
+// Written out, as in the other worked cases, so that its values are read beside the case.
 // A smart import meter of BM Unit 2, tariff 1 and a supplier.
 fn smart_import(supplier: u8) -> MeterRow {
     MeterRow {
@@ -36,24 +37,15 @@ fn smart_import(supplier: u8) -> MeterRow {
 }
 
 // A measured reading for a meter in the first period.
-fn deliver(meter: usize, stamp: u64, volume: u64) -> Call<SettlementPeriod> {
+fn deliver(meter: usize, stamp: u64, volume: u64) -> Call<SettlementPeriod, Delivery> {
     Call::Deliver {
         meter,
         period: SettlementPeriod(1),
-        delivery: Delivery {
+        reading: Delivery {
             stamp,
             volume,
             quality: 0,
         },
-    }
-}
-
-// An answer as a number: 0 for done, that of superseded, or the number of the refusal.
-fn told(answer: Result<Outcome, Refusal>) -> u8 {
-    match answer {
-        Ok(Outcome::Done) => 0,
-        Ok(Outcome::Superseded) => SUPERSEDED,
-        Err(refusal) => refusal.number(),
     }
 }
 
@@ -77,15 +69,19 @@ fn six_calls(rt: HostRuntime) -> Result<(), Fail> {
         deliver(1, 90, 300),
         deliver(1, 91, 1001),
         deliver(2, 91, 500),
-        Call::Factor {
-            class: 1,
+        Call::Revise {
             period,
-            factor: 950,
+            revision: Revision::Factor {
+                class: 1,
+                factor: 950,
+            },
         },
-        Call::Shape {
-            class: 1,
+        Call::Revise {
             period,
-            shape: 300,
+            revision: Revision::Shape {
+                class: 1,
+                shape: 300,
+            },
         },
         Call::Amend {
             meter: 1,
@@ -94,23 +90,44 @@ fn six_calls(rt: HostRuntime) -> Result<(), Fail> {
         Call::Close,
         Call::Settle,
     ];
-    let wanted = [2, 0, 0, SUPERSEDED, 11, 3, 0, 0, 0, 0, 2];
+    let wanted = [
+        Err(2),
+        Ok(Outcome::Done),
+        Ok(Outcome::Done),
+        Ok(Outcome::Superseded),
+        Err(11),
+        Err(3),
+        Ok(Outcome::Done),
+        Ok(Outcome::Done),
+        Ok(Outcome::Done),
+        Ok(Outcome::Done),
+        Err(2),
+    ];
+    let mut inputs = Inputs {
+        store: &mut window,
+        rows: &mut rows,
+        factors: &mut factors,
+        shapes: &mut shapes,
+    };
+    let mut first = Account {
+        report: &BmUnitReport,
+        totals: &mut units,
+    };
+    let mut second = Account {
+        report: &DuosReport,
+        totals: &mut duos,
+    };
     let answers = replay(
         rt.alloc(),
         &mut day,
-        &mut window,
-        &mut rows,
-        &mut factors,
-        &mut shapes,
-        &mut units,
-        &BmUnitReport,
-        &mut duos,
-        &DuosReport,
+        &mut inputs,
+        &mut first,
+        &mut second,
         &calls,
     )?;
     assert_eq!(rt; answers.len(), wanted.len());
     for (answer, want) in answers.iter().zip(wanted.iter()) {
-        assert_eq!(rt; told(*answer), *want);
+        assert_eq!(rt; answer.map_err(Refusal::number), *want);
     }
     assert_eq!(rt;
         (units[91].volume, units[91].loss, units[91].count),

@@ -1,6 +1,7 @@
 // dayclock: for each date among its arguments, the kind of Settlement Day it is and its periods by both clocks.
 #![tactic(auto)]
 
+use market::date::Date;
 use std::alloc::{AllocError, Global};
 use std::env::{Env, FillError};
 use std::io;
@@ -12,13 +13,6 @@ use timetable::word::read_date;
 // A longer argument is no date, and is not shown.
 const LONGEST: usize = 64;
 
-// What has been said so far: something that was asked for, and that a word is no date.
-#[derive(Clone, Copy)]
-struct Said {
-    answers: bool,
-    complaints: bool,
-}
-
 fn print_usage(rt: &HostRuntime) -> io::Result<()> {
     println!(rt; "usage: dayclock YYYY-MM-DD ..")?;
     println!(rt;
@@ -26,13 +20,6 @@ fn print_usage(rt: &HostRuntime) -> io::Result<()> {
     )?;
     println!(rt;
         "and for each Settlement Period the clock time at which it ends and the UTC date and period it is."
-    )
-}
-
-// Says that an argument is no date, and what one looks like.
-fn complain(rt: &HostRuntime, argument: &str) -> io::Result<()> {
-    eprintln!(rt;
-        "dayclock: {argument} is no date: expected YYYY-MM-DD, from 2024-01-01 to 2055-12-31"
     )
 }
 
@@ -44,77 +31,79 @@ fn called(heap: Global, place: usize, word: &[u8]) -> Result<String, AllocError>
     }
 }
 
-// Answers a word that is no date: complains of it, unless it asks for help.
-fn answer_other(rt: &HostRuntime, place: usize, word: &[u8], said: Said) -> io::Result<Said> {
-    if word == b"--help".as_slice() {
-        print_usage(rt)?;
-        return Ok(Said {
-            answers: true,
-            complaints: said.complaints,
-        });
-    }
-    complain(rt, called(rt.alloc(), place, word)?.as_str())?;
-    Ok(Said {
-        answers: said.answers,
-        complaints: true,
-    })
+// Two flags and no enum: each may hold without the other, and neither has a value beside it.
+// The talk with whoever called the program: whether something that was asked for has been said, and that a word is no date.
+#[derive(Drop)]
+struct Talk<'a> {
+    rt: &'a HostRuntime,
+    answers: bool,
+    complaints: bool,
 }
 
-// Prints the table of a date, with an empty line before it unless it is the first answer, or answers another word.
-fn answer(rt: &HostRuntime, place: usize, word: &[u8], said: Said) -> io::Result<Said> {
-    match read_date(word) {
-        Some(day) => {
-            if said.answers {
-                println!(rt; "")?;
+impl Talk<'_> {
+    // Says that an argument is no date, and what one looks like.
+    fn complain(&mut self, argument: &str) -> io::Result<()> {
+        self.complaints = true;
+        eprintln!(self.rt;
+            "dayclock: {argument} is no date: expected YYYY-MM-DD, from 2024-01-01 to 2055-12-31"
+        )
+    }
+
+    // Prints the table of a date, with an empty line before it unless it is the first answer.
+    fn show(&mut self, day: Date) -> io::Result<()> {
+        if self.answers {
+            println!(self.rt; "")?;
+        }
+        self.answers = true;
+        self.rt.print(table(self.rt.alloc(), day)?)
+    }
+
+    // Shows how the program is used.
+    fn help(&mut self) -> io::Result<()> {
+        self.answers = true;
+        print_usage(self.rt)
+    }
+
+    // Answers a word: a date by its table, a call for help by the usage, and any other by a complaint.
+    fn answer(&mut self, place: usize, word: &[u8]) -> io::Result<()> {
+        if let Some(day) = read_date(word) {
+            self.show(day)
+        } else if word == b"--help".as_slice() {
+            self.help()
+        } else {
+            self.complain(called(self.rt.alloc(), place, word)?.as_str())
+        }
+    }
+
+    // Answers every argument, one after the other.
+    // `env::args` refuses all arguments where one of them is no text; here each is told by its place, as one that is too long is.
+    fn answer_all(&mut self) -> io::Result<()> {
+        let mut buffer = [0u8; LONGEST];
+        for place in 1..usize::MAX {
+            match self.rt.arg(place, &mut buffer) {
+                Ok(length) => self.answer(place, &buffer[..length])?,
+                Err(FillError::TooLong) => {
+                    self.complain(format!(in self.rt.alloc(); "argument {place}")?.as_str())?;
+                }
+                Err(FillError::NotPresent) => break,
             }
-            rt.print(table(rt.alloc(), day)?)?;
-            Ok(Said {
-                answers: true,
-                complaints: said.complaints,
-            })
         }
-        None => answer_other(rt, place, word, said),
+        Ok(())
     }
-}
-
-// Answers the argument at a place, or says that there is none.
-fn answer_at(rt: &HostRuntime, place: usize, said: Said) -> io::Result<Option<Said>> {
-    let mut buffer = [0u8; LONGEST];
-    match rt.arg(place, &mut buffer) {
-        Ok(length) => Ok(Some(answer(rt, place, &buffer[0..length], said)?)),
-        Err(FillError::TooLong) => {
-            complain(rt, format!(in rt.alloc(); "argument {place}")?.as_str())?;
-            Ok(Some(Said {
-                answers: said.answers,
-                complaints: true,
-            }))
-        }
-        Err(FillError::NotPresent) => Ok(None),
-    }
-}
-
-// Answers every argument, one after the other.
-fn answer_all(rt: &HostRuntime) -> io::Result<Said> {
-    let mut said = Said {
-        answers: false,
-        complaints: false,
-    };
-    for place in 1..usize::MAX {
-        match answer_at(rt, place, said)? {
-            Some(more) => said = more,
-            None => break,
-        }
-    }
-    Ok(said)
 }
 
 fn main(rt: HostRuntime) -> io::Result<ExitCode> {
-    let said = answer_all(&rt)?;
-    if said.complaints {
+    let mut talk = Talk {
+        rt: &rt,
+        answers: false,
+        complaints: false,
+    };
+    talk.answer_all()?;
+    if talk.complaints {
         return Ok(ExitCode::FAILURE);
     }
-    if !said.answers {
-        print_usage(&rt)?;
+    if !talk.answers {
+        talk.help()?;
     }
     Ok(ExitCode::SUCCESS)
 }

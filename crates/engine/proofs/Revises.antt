@@ -10,8 +10,8 @@ use Rattle.totals.specs.Holds.{Entries, Replaced}
 use Rattle.totals.specs.Moving.{Move}
 use Rattle.totals.proofs.Chains.{meters_none, meters_more, meters_passed, meters_all}
 use Rattle.rules.specs.Tables.{no_row, entry_in, factor_of, shape_of}
-use Rattle.engine.specs.declared.revision.Revision.{Revision}
-use Rattle.engine.specs.declared.revision.Revision.TheVariants.{Factor, Shape}
+use Rattle.rules.specs.declared.revision.Revision.{Revision}
+use Rattle.rules.specs.declared.revision.Revision.TheVariants.{Factor, Shape}
 use Rattle.engine.specs.Entries.{entry_with, entry_by, entries_of}
 use Rattle.engine.specs.Revision.{Concerns, with_entry, factors_after, shapes_after, revised_entry, Reaches}
 use Rattle.engine.specs.Changes.{ReviseRight, RevisedFrom}

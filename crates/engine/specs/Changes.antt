@@ -9,7 +9,7 @@ use Rattle.totals.specs.Rules.{Rules}
 use Rattle.totals.specs.Table.{HasTotal, total_at}
 use Rattle.totals.specs.Holds.{Holds, InPeriod, meters_below}
 use Rattle.rules.specs.Tables.{row_of}
-use Rattle.engine.specs.declared.revision.Revision.{Revision}
+use Rattle.rules.specs.declared.revision.Revision.{Revision}
 use Rattle.engine.specs.Entries.{entries_of}
 use Rattle.engine.specs.Revision.{Reaches, factors_after, shapes_after}
 

@@ -4,8 +4,8 @@ use Rattle.readings.specs.declared.reading.Reading.{Reading}
 use Rattle.meters.specs.declared.row.MeterRow.{MeterRow}
 use Rattle.totals.specs.declared.entry.Entry.{Entry}
 use Rattle.rules.specs.Tables.{entry_cell, factor_of, shape_of}
-use Rattle.engine.specs.declared.revision.Revision.{Revision}
-use Rattle.engine.specs.declared.revision.Revision.TheVariants.{Factor, Shape}
+use Rattle.rules.specs.declared.revision.Revision.{Revision}
+use Rattle.rules.specs.declared.revision.Revision.TheVariants.{Factor, Shape}
 use Rattle.engine.specs.Entries.{entry_with}
 
 -- a record is of the class that is changed

@@ -6,7 +6,7 @@ use meters::meter::Meter;
 use meters::row::{MeterRow, Quantity};
 use meters::used::UsedReading;
 use readings::reading::Reading;
-use rules::tables::{LOSS_CLASSES, SHAPE_CLASSES, entry_at};
+use rules::sources::Sources;
 use totals::entry::Entry;
 
 // The used reading of a meter, by a shape that may be blank: without it an import meter has no default.
@@ -20,6 +20,7 @@ fn used_by(meter: Meter, stored: Option<Reading>, shape: Option<u32>) -> Option<
 }
 
 // What counts for a record and what is stored for its meter, by its shape and its factor. Nothing is used of an unlawful record.
+#[tactic(auto, using(meters::proofs::Laws::lawful_true, meters::proofs::Laws::unlawful_false))]
 pub(crate) fn entry_with(
     row: MeterRow,
     stored: Option<Reading>,
@@ -28,24 +29,25 @@ pub(crate) fn entry_with(
 ) -> Entry
     ensures { result ≡ entry_with row stored shape factor }
 {
-    let used = match Meter::new(row) {
-        Ok(meter) => used_by(meter, stored, shape),
-        Err(_) => None,
-    };
+    let used = Meter::new(row)
+        .ok()
+        .and_then(|meter| used_by(meter, stored, shape));
     Entry { row, used, factor }
 }
 
 // The same in a period, by the tables.
-pub fn entry_of(
-    factors: &[Option<u16>],
-    shapes: &[Option<u32>],
+pub fn entry_of<S>(
+    sources: &Sources<'_, S>,
     row: MeterRow,
     stored: Option<Reading>,
     period: u8,
 ) -> Entry
-    ensures { result ≡ entry_by factors.now shapes.now row stored period }
+    ensures { result ≡ entry_by sources.now.factors.now sources.now.shapes.now row stored period }
 {
-    let shape = entry_at(shapes, SHAPE_CLASSES, row.shape_class, period);
-    let factor = entry_at(factors, LOSS_CLASSES, row.loss_class, period);
-    entry_with(row, stored, shape, factor)
+    entry_with(
+        row,
+        stored,
+        sources.shape(row, period),
+        sources.factor(row, period),
+    )
 }

@@ -3,6 +3,6 @@
 
 pub mod amending;
 pub mod entry;
+pub mod meter_entries;
 pub mod revising;
-pub mod revision;
-pub mod sources;
+mod revision;

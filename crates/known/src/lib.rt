@@ -6,10 +6,12 @@ ghost use Rattle.std.specs.Prelude.{◌≡◌, true};
 ghost use Rattle.known.specs.Values.{KnownValues};
 
 mod days;
+pub mod meter;
 mod order;
 mod uses;
 
 // Whether the engine's functions give the known values. They do, and so do the definitions that their contracts cite.
+#[tactic(auto, using(crate::proofs::Values::known_values))]
 pub fn known_values_hold() -> bool
     ensures theorem { KnownValues }
     ensures value { result ≡ true }

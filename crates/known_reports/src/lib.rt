@@ -5,7 +5,6 @@
 ghost use Rattle.std.specs.Prelude.{◌≡◌, true};
 ghost use Rattle.known_reports.specs.Values.{ReportedValues};
 
-mod meter;
 mod reported;
 
 // Whether the engine's functions give the known values. They do, and so do the definitions that their contracts cite.

@@ -1,9 +1,10 @@
 -- A joined day: two UTC dates shown as a Settlement Day.
-use Rattle.std.specs.Prelude.{ℕ, ◌+◌, ◌-◌, min, cond, ◌&&◌, Some, None, Option, ◌==◌, nat_le}
+use Rattle.std.specs.Prelude.{ℕ, ◌+◌, ◌-◌, ◌≤◌, min, cond, ◌&&◌, Some, None, Option, ◌==◌, nat_le}
 use Rattle.market.specs.declared.clock.UtcDate.{UtcDate}
 use Rattle.market.specs.declared.clock.UtcDate.TheVariants.{DateBefore, TheDate}
+use Rattle.market.specs.declared.clock.UtcPeriod.{UtcPeriod}
 use Rattle.market.specs.declared.clock.DayKind.{DayKind}
-use Rattle.market.specs.Clock.{periods_of, lead_of}
+use Rattle.market.specs.Clock.{periods_of, lead_of, HasPeriod, SameTime}
 use Rattle.readings.specs.declared.reading.Reading.{Reading}
 use Rattle.stores.specs.Grid.{Grid}
 
@@ -11,6 +12,11 @@ use Rattle.stores.specs.Grid.{Grid}
 abbrev pub utc_of : DayKind → ℕ → Option (UtcDate × ℕ)
 utc_of k p =
     cond (nat_le 1 p && nat_le p (periods_of k)) (Some (cond (nat_le p (lead_of k)) (DateBefore, p + 46) (TheDate, p - lead_of k))) None
+
+-- where a place of a day with ms meters lies, or none where the day has no such place
+abbrev pub LiesAt : DayKind → ℕ → ℕ → ℕ → Option (UtcDate × UtcPeriod) → Type 0
+LiesAt k ms m p (Some place) = (1 ≤ m) × (m ≤ ms) × SameTime k p place.0 place.1.0
+LiesAt k ms m p None = (1 ≤ m) × (m ≤ ms) × HasPeriod k p → ⊥
 
 -- what two dates hold for a meter at a place of theirs
 abbrev pub on_date : Grid → Grid → ℕ → UtcDate → ℕ → Option Reading

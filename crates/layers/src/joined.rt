@@ -2,7 +2,7 @@
 ghost use Rattle.std.specs.Prelude.{◌≡◌};
 ghost use Rattle.market.specs.Clock.{periods_of};
 ghost use Rattle.stores.specs.Grid.{one, both};
-ghost use Rattle.layers.specs.Joined.{joined_grid, common_meters, kind_place};
+ghost use Rattle.layers.specs.Joined.{joined_grid, common_meters, kind_place, LiesAt};
 
 use market::clock::{ClockPlace, DayKind, SettlementPeriod, UtcDate, UtcPeriod, convert};
 use market::refusal::Refusal;
@@ -23,6 +23,19 @@ impl<F: Store<Period = UtcPeriod>, D: Store<Period = UtcPeriod>> JoinedDay<F, D>
         ensures { (result.kind ≡ kind) × (result.before ≡ before) × (result.date ≡ date) }
     {
         JoinedDay { kind, before, date }
+    }
+
+    // The date and the period where a place of the day lies, if there is one.
+    fn place_of(&self, meter: usize, period: SettlementPeriod) -> Option<(UtcDate, UtcPeriod)>
+        ensures { LiesAt self.now.kind (common_meters (F.Store.meters self.now.before) (F.Store.periods self.now.before) (D.Store.meters self.now.date) (D.Store.periods self.now.date)) meter period.0 result }
+    {
+        if !(1..=self.meter_count()).contains(&meter) {
+            return None;
+        }
+        match convert(self.kind, ClockPlace::Settlement(period)) {
+            Ok(Some(ClockPlace::Utc(date, utc))) => Some((date, utc)),
+            _ => None,
+        }
     }
 }
 
@@ -50,13 +63,9 @@ impl<F: Store<Period = UtcPeriod>, D: Store<Period = UtcPeriod>> Store for Joine
     }
 
     fn show(&self, meter: usize, period: SettlementPeriod) -> Option<Reading> {
-        if meter < 1 || meter > self.meter_count() {
-            return None;
-        }
-        match convert(self.kind, ClockPlace::Settlement(period)) {
-            Ok(Some(ClockPlace::Utc(UtcDate::DateBefore, utc))) => self.before.show(meter, utc),
-            Ok(Some(ClockPlace::Utc(UtcDate::TheDate, utc))) => self.date.show(meter, utc),
-            _ => None,
+        match self.place_of(meter, period)? {
+            (UtcDate::DateBefore, utc) => self.before.show(meter, utc),
+            (UtcDate::TheDate, utc) => self.date.show(meter, utc),
         }
     }
 
@@ -66,15 +75,9 @@ impl<F: Store<Period = UtcPeriod>, D: Store<Period = UtcPeriod>> Store for Joine
         period: SettlementPeriod,
         reading: Reading,
     ) -> Result<(), Refusal> {
-        if meter < 1 || meter > (*self).meter_count() {
-            return Err(Refusal::NoSuch);
-        }
-        match convert(self.kind, ClockPlace::Settlement(period)) {
-            Ok(Some(ClockPlace::Utc(UtcDate::DateBefore, utc))) => self
-                .before
-                .put(meter, utc, reading),
-            Ok(Some(ClockPlace::Utc(UtcDate::TheDate, utc))) => self.date.put(meter, utc, reading),
-            _ => Err(Refusal::NoSuch),
+        match (*self).place_of(meter, period).ok_or(Refusal::NoSuch)? {
+            (UtcDate::DateBefore, utc) => self.before.put(meter, utc, reading),
+            (UtcDate::TheDate, utc) => self.date.put(meter, utc, reading),
         }
     }
 }

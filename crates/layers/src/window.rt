@@ -38,7 +38,7 @@ impl<S: Store> Store for Window<S> {
 
     fn meter_count(&self) -> usize {
         let period = self.period.number_of();
-        if 1 <= period && period <= self.below.period_count() {
+        if (1..=self.below.period_count()).contains(&period) {
             self.below.meter_count()
         } else {
             0

@@ -1,5 +1,6 @@
 -- Dates in the count of days: how two of them compare, and that no two have the same day.
-use Rattle.std.proofs.Common.{◌≡◌, ℕ, suc, ◌+◌, ◌-◌, ◌<◌, ◌≤◌, Ok, Err, Result, Ordering, Less, Equal, Greater, sym, ap, ⊎_elim, arith}
+use Rattle.std.proofs.Common.{◌≡◌, ℕ, suc, ◌+◌, ◌-◌, ◌<◌, ◌≤◌, Ok, Err, Result, Ordering, Less, Equal, Greater, nat_cmp, sym, ap, subst, ⊎_elim, arith}
+use Rattle.std.specs.Cmp.{ranks}
 use Rattle.std.specs.Ordering.{MatchOrdering, ordering_then}
 use Rattle.std.proofs.lemmas.Bool.{cases_lt, cases_order}
 use Rattle.std.proofs.lemmas.Bool.Decides.{nat_tests}
@@ -8,10 +9,6 @@ use Rattle.market.specs.declared.date.Date.{Date}
 use Rattle.market.specs.Calendar.{days_in, days_of_years, day_count}
 use Rattle.market.specs.Dates.{count_of, Dated, DatedBefore, OneDateADay}
 use Rattle.market.proofs.Counts.{months_to, years_to, earlier_month, earlier_year}
-
--- how two numbers compare
-abbrev pub Order : Ordering → ℕ → ℕ → Type 0
-Order o a b = MatchOrdering o (a < b) (a ≡ b) (b < a)
 
 earlier_in_year : (a b : Date) → a.year ≡ b.year → a.month < b.month → count_of a < count_of b
 earlier_in_year a b y m =
@@ -28,16 +25,25 @@ earlier : (a b : Date) → a.year < b.year → count_of a < count_of b
 earlier a b h =
     earlier_year a.year a.month a.day b.year b.month b.day a.years.0 h a.months.0 a.months.1 a.days.1 b.days.0
 
--- dates compare as their years do, then their months, then their days
-pub compared : (a b : Date) (y m d : Ordering) → Order y a.year b.year → Order m a.month b.month → Order d a.day b.day →
+-- how two numbers compare
+abbrev Order : Ordering → ℕ → ℕ → Type 0
+Order o a b = MatchOrdering o (a < b) (a ≡ b) (b < a)
+
+then_order : (a b : Date) (y m d : Ordering) → Order y a.year b.year → Order m a.month b.month → Order d a.day b.day →
     Order (ordering_then y (ordering_then m d)) (count_of a) (count_of b)
-compared a b Less m d p q r = earlier a b p
-compared a b Greater m d p q r = earlier b a p
-compared a b Equal Less d p q r = earlier_in_year a b p q
-compared a b Equal Greater d p q r = earlier_in_year b a (sym p) q
-compared a b Equal Equal Less p q r = let same = same_month a b p q in omega arith
-compared a b Equal Equal Equal p q r = let same = same_month a b p q in omega arith
-compared a b Equal Equal Greater p q r = let same = same_month a b p q in omega arith
+then_order a b Less m d p q r = earlier a b p
+then_order a b Greater m d p q r = earlier b a p
+then_order a b Equal Less d p q r = earlier_in_year a b p q
+then_order a b Equal Greater d p q r = earlier_in_year b a (sym p) q
+then_order a b Equal Equal Less p q r = let same = same_month a b p q in omega arith
+then_order a b Equal Equal Equal p q r = let same = same_month a b p q in omega arith
+then_order a b Equal Equal Greater p q r = let same = same_month a b p q in omega arith
+
+-- dates compare as their years do, then their months, then their days: as their counts do
+pub compared : (a b : Date) (o : Ordering) → o ≡ ordering_then (nat_cmp a.year b.year) (ordering_then (nat_cmp a.month b.month) (nat_cmp a.day b.day)) →
+    Order o (count_of a) (count_of b)
+compared a b o e = subst (λ (x : Ordering). Order x (count_of a) (count_of b)) (sym e)
+    (then_order a b _ _ _ (ranks a.year b.year) (ranks a.month b.month) (ranks a.day b.day))
 
 -- no two dates have the same day in the count
 pub one_date_a_day : OneDateADay

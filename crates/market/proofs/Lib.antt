@@ -1,4 +1,3 @@
-pub mod Below
 pub mod Clocks
 pub mod Counts
 pub mod Dates

@@ -1,7 +1,6 @@
 // Dates, and the days on which the clocks change.
-ghost use Rattle.std.specs.Prelude.{◌≡◌, ◌<◌, ◌≤◌};
-ghost use Rattle.std.specs.Ordering.{MatchOrdering};
-ghost use Rattle.market.specs.Calendar.{leap, days_in, LastSundays, kind_of, KindOn};
+ghost use Rattle.std.specs.Prelude.{◌≡◌, Decides, ◌<◌, ◌≤◌};
+ghost use Rattle.market.specs.Calendar.{leap, days_in, Exists, LastSundays, kind_of, KindOn};
 ghost use Rattle.market.specs.Dates.{Dated, DatedBefore, count_of, OneDateADay, ChangesOn};
 
 use crate::clock::DayKind;
@@ -46,6 +45,7 @@ const CHANGE_DAYS: [(u8, u8); 32] = [
 ];
 
 // The table, each entry of which is the last Sunday of its month.
+#[tactic(auto, using(crate::proofs::Tables::last_sundays))]
 fn change_days() -> [(u8, u8); 32]
     ensures { LastSundays result }
 {
@@ -70,6 +70,15 @@ fn days_in(year: u16, month: u8) -> u8
     }
 }
 
+// Whether the calendar has the date, in the years 2024 to 2055.
+fn has_date(year: u16, month: u8, day: u8) -> bool
+    ensures { Decides result (Exists year month day) }
+{
+    (2024..=2055).contains(&year)
+        && (1..=12).contains(&month)
+        && (1..=days_in(year, month)).contains(&day)
+}
+
 // The days on which the clocks of one year change.
 #[derive(Clone, Copy)]
 struct Changes {
@@ -84,7 +93,7 @@ fn changes_in(year: u16) -> Changes
     ensures autumn { ChangesOn year 10 result.autumn }
 {
     let table = change_days();
-    let (march, october) = table[(year - 2024) as usize];
+    let (march, october) = table[usize::from(year - 2024)];
     let spring = Date {
         year,
         month: 3,
@@ -103,19 +112,14 @@ impl Date {
     pub fn new(year: u16, month: u8, day: u8) -> Result<Date, Refusal>
         ensures { Dated year month day result }
     {
-        if year < 2024
-            || year > 2055
-            || month < 1
-            || month > 12
-            || day < 1
-            || day > days_in(year, month)
-        {
+        if !has_date(year, month, day) {
             return Err(Refusal::NoSuchDate);
         }
         Ok(Date { year, month, day })
     }
 
     // The date before, if it lies in the years.
+    #[tactic(auto, using(crate::proofs::Dates::day_back, crate::proofs::Dates::month_back, crate::proofs::Dates::year_back, crate::proofs::Dates::one_date_a_day))]
     pub fn before(self) -> Result<Date, Refusal>
         ensures value { DatedBefore self result }
         ensures one { OneDateADay }
@@ -130,23 +134,13 @@ impl Date {
         Date::new(self.year - 1, 12, 31)
     }
 
-    // Where this date stands to another one in the count of days.
-    fn compare(self, other: Date) -> Ordering
-        ensures { MatchOrdering result (count_of self < count_of other) (count_of self ≡ count_of other) (count_of other < count_of self) }
-    {
-        let by_year = self.year.cmp(&other.year);
-        let by_month = self.month.cmp(&other.month);
-        let by_day = self.day.cmp(&other.day);
-        by_year.then(by_month.then(by_day))
-    }
-
     // The kind of Settlement Day that the date is.
     pub fn kind(self) -> DayKind
         ensures value { result ≡ kind_of self.year self.month self.day }
         ensures law { KindOn self.year self.month self.day result }
     {
         let changes = changes_in(self.year);
-        match (self.compare(changes.spring), self.compare(changes.autumn)) {
+        match (self.cmp(&changes.spring), self.cmp(&changes.autumn)) {
             (Ordering::Equal, _) => DayKind::SpringChange,
             (_, Ordering::Equal) => DayKind::AutumnChange,
             (Ordering::Greater, Ordering::Less) => DayKind::Summer,

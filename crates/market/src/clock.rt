@@ -5,29 +5,30 @@ ghost use Rattle.market.specs.Clock.{periods_of, lead_of, ToUtc, ToSettlement, C
 use crate::refusal::Refusal;
 
 // The number of a Settlement Period, counted from 1 in clock time. Any number may stand here: one that the day lacks is refused.
-#[derive(Clone, Copy)]
+#[derive(Clone, Copy, Debug, PartialEq, Eq, PartialOrd, Ord)]
 pub struct SettlementPeriod(pub u8);
 
+// A type of its own beside the one above, of the same shape: a rule, so that neither is taken for the other.
 // The number of a UTC period of a UTC date, 1 to 48; period 1 ends at 00:30. Any number may stand here too.
-#[derive(Clone, Copy)]
+#[derive(Clone, Copy, Debug, PartialEq, Eq, PartialOrd, Ord)]
 pub struct UtcPeriod(pub u8);
 
 // The UTC date on which a period of a Settlement Day lies.
-#[derive(Clone, Copy)]
+#[derive(Clone, Copy, Debug, PartialEq, Eq)]
 pub enum UtcDate {
     DateBefore,
     TheDate,
 }
 
 // A half hour of a Settlement Day, by either clock.
-#[derive(Clone, Copy)]
+#[derive(Clone, Copy, Debug, PartialEq, Eq)]
 pub enum ClockPlace {
     Settlement(SettlementPeriod),
     Utc(UtcDate, UtcPeriod),
 }
 
 // The four kinds of Settlement Day.
-#[derive(Clone, Copy)]
+#[derive(Clone, Copy, Debug, PartialEq, Eq)]
 pub enum DayKind {
     Winter,
     Summer,
@@ -66,7 +67,7 @@ pub(crate) fn to_utc(
     ensures { ToUtc kind period result }
 {
     let number = period.0;
-    if number < 1 || number > kind.periods() {
+    if !(1..=kind.periods()).contains(&number) {
         return Err(Refusal::NoSuch);
     }
     let lead = kind.lead();
@@ -86,24 +87,16 @@ fn to_settlement(
     ensures { ToSettlement kind date period result }
 {
     let number = period.0;
-    if number < 1 || number > 48 {
+    if !(1..=48).contains(&number) {
         return Err(Refusal::NoSuch);
     }
     let lead = kind.lead();
-    match date {
-        UtcDate::DateBefore => {
-            if number + lead <= 48 {
-                return Ok(None);
-            }
-            Ok(Some(SettlementPeriod(number - 46)))
-        }
-        UtcDate::TheDate => {
-            if number + lead > kind.periods() {
-                return Ok(None);
-            }
-            Ok(Some(SettlementPeriod(number + lead)))
-        }
-    }
+    Ok(match date {
+        UtcDate::DateBefore => (number + lead > 48).then(|| SettlementPeriod(number - 46)),
+        UtcDate::TheDate => (number + lead <= kind.periods()).then(|| SettlementPeriod(
+            number + lead,
+        )),
+    })
 }
 
 // The same half hour by the other clock, or none where a UTC period lies outside the day.
@@ -117,9 +110,9 @@ pub fn convert(kind: DayKind, place: ClockPlace) -> Result<Option<ClockPlace>, R
             let (date, utc) = to_utc(kind, period)?;
             Ok(Some(ClockPlace::Utc(date, utc)))
         }
-        ClockPlace::Utc(date, period) => match to_settlement(kind, date, period)? {
-            Some(settlement) => Ok(Some(ClockPlace::Settlement(settlement))),
-            None => Ok(None),
-        },
+        ClockPlace::Utc(date, period) => {
+            let settlement = to_settlement(kind, date, period)?;
+            Ok(settlement.map(ClockPlace::Settlement))
+        }
     }
 }

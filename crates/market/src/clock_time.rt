@@ -6,7 +6,7 @@ use crate::clock::{DayKind, SettlementPeriod, UtcDate, UtcPeriod, to_utc};
 use crate::refusal::Refusal;
 
 // The time that clocks keep: Greenwich Mean Time, which is UTC, or British Summer Time, an hour ahead of it.
-#[derive(Clone, Copy)]
+#[derive(Clone, Copy, Debug, PartialEq, Eq)]
 pub enum Zone {
     Gmt,
     Bst,
@@ -25,7 +25,7 @@ impl Zone {
 }
 
 // A time of day, 00:00 to 23:59, by the clock in force.
-#[derive(Clone, Copy)]
+#[derive(Clone, Copy, Debug, PartialEq, Eq)]
 pub struct ClockTime {
     pub hour: u8,
     pub minute: u8,

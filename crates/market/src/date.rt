@@ -2,8 +2,8 @@
 ghost use Rattle.std.specs.Prelude.{◌≡◌, ◌≤◌};
 ghost use Rattle.market.specs.Calendar.{days_in};
 
-// A date of the years 2024 to 2055. Every value of this type is a date that exists.
-#[derive(Clone, Copy)]
+// A date of the years 2024 to 2055. Every value of this type is a date that exists, and an earlier date is the smaller one.
+#[derive(Clone, Copy, Debug, PartialEq, Eq, PartialOrd, Ord)]
 pub struct Date {
     pub(crate) year: u16,
     pub(crate) month: u8,

@@ -3,25 +3,25 @@ ghost use Rattle.std.specs.Prelude.{◌≡◌};
 ghost use Rattle.market.specs.Refusal.{number_of};
 
 // The reasons, in the order of their numbers. The lowest one that applies is the answer.
-#[derive(Clone, Copy, Debug)]
+#[derive(Clone, Copy, Debug, PartialEq, Eq, PartialOrd, Ord)]
 pub enum Refusal {
-    Sizes,
-    State,
-    NoSuch,
-    UnlawfulRecord,
-    UnclassedReading,
-    AboveLimit,
-    BlankFactor,
-    BlankShape,
-    StampOrQuality,
-    VolumeNotZero,
-    VolumeTooLarge,
-    Deenergised,
-    NoClass,
-    NoSuchDate,
-    Layout,
-    Mpan,
-    TooFewBytes,
+    Sizes = 1,
+    State = 2,
+    NoSuch = 3,
+    UnlawfulRecord = 4,
+    UnclassedReading = 5,
+    AboveLimit = 6,
+    BlankFactor = 7,
+    BlankShape = 8,
+    StampOrQuality = 9,
+    VolumeNotZero = 10,
+    VolumeTooLarge = 11,
+    Deenergised = 12,
+    NoClass = 13,
+    NoSuchDate = 14,
+    Layout = 15,
+    Mpan = 16,
+    TooFewBytes = 17,
 }
 
 impl Refusal {
@@ -29,24 +29,6 @@ impl Refusal {
     pub fn number(self) -> u8
         ensures { result ≡ number_of self }
     {
-        match self {
-            Refusal::Sizes => 1,
-            Refusal::State => 2,
-            Refusal::NoSuch => 3,
-            Refusal::UnlawfulRecord => 4,
-            Refusal::UnclassedReading => 5,
-            Refusal::AboveLimit => 6,
-            Refusal::BlankFactor => 7,
-            Refusal::BlankShape => 8,
-            Refusal::StampOrQuality => 9,
-            Refusal::VolumeNotZero => 10,
-            Refusal::VolumeTooLarge => 11,
-            Refusal::Deenergised => 12,
-            Refusal::NoClass => 13,
-            Refusal::NoSuchDate => 14,
-            Refusal::Layout => 15,
-            Refusal::Mpan => 16,
-            Refusal::TooFewBytes => 17,
-        }
+        self as u8
     }
 }

@@ -1,5 +1,6 @@
 -- The laws of used readings.
 use Rattle.std.proofs.Common.{◌≡◌, ℕ, Bool, true, false, cond, not, ◌||◌, eqb, is_some, Some, None, sym, refl, ap, subst}
+use Rattle.std.proofs.lemmas.Option.{cond_some}
 use Rattle.readings.specs.declared.reading.Reading.{Reading}
 use Rattle.meters.specs.declared.row.Segment.{Segment}
 use Rattle.meters.specs.declared.row.Segment.TheVariants.{Smart, Advanced, Unmetered}
@@ -27,22 +28,17 @@ has_class : (s : Segment) (x : Quantity) (c : Connection) (b : Bool) (shape : �
 has_class s x c true shape h = in_table s x c shape
 has_class s x c false shape h = cc
 
--- what is there only on a test is what was to be there
-chosen : {X : Type 0} (b : Bool) (x y : X) → cond b (Some x) None ≡ Some y → x ≡ y
-chosen true x y e = cc
-chosen false x y e = cc
-
 default_classed : (m : MeterRow) (shape : ℕ) (u : UsedReading) → Lawful m → used_of m None shape ≡ Some u → is_some (class_at m u.quality) ≡ true
 unfolding class_at
 default_classed m shape u lawful e =
     subst (λ (w : UsedReading). is_some (class_of m.segment m.quantity m.connection w.quality) ≡ true)
-    (chosen (is_energised m.status) (default_of m.segment m.quantity shape) u e)
+    (cond_some (is_energised m.status) (default_of m.segment m.quantity shape) u e).1
     (has_class m.segment m.quantity m.connection (connects m.segment m.connection) shape lawful.connection)
 
 stored_classed : (m : MeterRow) (r : Reading) (shape : ℕ) (u : UsedReading) → used_of m (Some r) shape ≡ Some u →
     (class_at m u.quality ≡ class_at m r.quality) × (u.volume ≡ r.volume)
 stored_classed m r shape u e =
-    let same = sym (chosen (is_energised m.status || not (eqb r.volume 0)) (used r.volume r.quality) u e) in
+    let same = sym (cond_some (is_energised m.status || not (eqb r.volume 0)) (used r.volume r.quality) u e).1 in
     (ap (λ w. class_at m w.quality) same, ap (λ w. w.volume) same)
 
 pub used_laws : UsedLaws

@@ -1,24 +1,10 @@
 // Consumption component classes: which class a volume counts in, by its meter and quality.
 ghost use Rattle.std.specs.Prelude.{◌≡◌};
-ghost use Rattle.meters.specs.Class.{connection_place, class_of, losses_of};
+ghost use Rattle.meters.specs.Class.{class_of, losses_of};
 
 use crate::making::can_connect;
 use crate::row::{Connection, Quantity, Segment};
 use qualities::quality::Quality;
-
-impl Connection {
-    // How far the connection is from whole current.
-    fn place(self) -> u8
-        ensures { result ≡ connection_place self }
-    {
-        match self {
-            Connection::WholeCurrent => 0,
-            Connection::LowVoltage => 1,
-            Connection::HighVoltage => 2,
-            Connection::ExtraHighVoltage => 3,
-        }
-    }
-}
 
 // The class of a volume, 100 to 182, or none.
 pub fn consumption_class(
@@ -32,7 +18,9 @@ pub fn consumption_class(
     if !can_connect(segment, connection) {
         return None;
     }
-    let place = connection.place();
+    // how far the connection is from whole current
+    let place = connection as u8;
+    // one flat match over segment, quantity and quality is no plainer: half of its arms take five lines each
     let class = match (segment, quantity) {
         (Segment::Unmetered, Quantity::Import) => match quality {
             Quality::A => 100,

@@ -11,37 +11,29 @@ use market::refusal::Refusal;
 fn is_up_to(top: u8, number: u8) -> bool
     ensures { result ≡ up_to top number }
 {
-    1 <= number && number <= top
+    (1..=top).contains(&number)
 }
 
 // Whether there is no number, or it is one of 1 to top.
 fn is_up_to_or_none(top: u8, number: Option<u8>) -> bool
     ensures { result ≡ up_to_or_none top number }
 {
-    match number {
-        Some(n) => is_up_to(top, n),
-        None => true,
-    }
+    number.is_none_or(|n| is_up_to(top, n))
 }
 
 // Whether a segment can have a connection.
 pub(crate) fn can_connect(segment: Segment, connection: Connection) -> bool
     ensures { result ≡ connects segment connection }
 {
-    match (segment, connection) {
-        (Segment::Advanced, _) => true,
-        (Segment::Smart | Segment::Unmetered, Connection::WholeCurrent) => true,
-        _ => false,
-    }
+    segment == Segment::Advanced || connection == Connection::WholeCurrent
 }
 
 impl Meter {
-    // The meter of a record, if it is lawful.
+    // The meter of a record, if it is lawful. `new` and no `TryFrom`: the same test and the same clause under another name.
     pub fn new(row: MeterRow) -> Result<Meter, Refusal>
         ensures { Made row result }
     {
-        if 1 <= row.mpan
-            && row.mpan <= 9_999_999_999_999
+        if (1..=9_999_999_999_999).contains(&row.mpan)
             && can_connect(row.segment, row.connection)
             && is_up_to(32, row.shape_class)
             && is_up_to(40, row.loss_class)

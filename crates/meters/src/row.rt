@@ -1,7 +1,7 @@
 // A meter's record as it is handed over: any numbers.
 
 // Smart, advanced or unmetered: S, A, U.
-#[derive(Clone, Copy)]
+#[derive(Clone, Copy, Debug, PartialEq, Eq)]
 pub enum Segment {
     Smart,
     Advanced,
@@ -9,14 +9,14 @@ pub enum Segment {
 }
 
 // Active import or active export: I, X.
-#[derive(Clone, Copy)]
+#[derive(Clone, Copy, Debug, PartialEq, Eq)]
 pub enum Quantity {
     Import,
     Export,
 }
 
 // How the meter is connected: whole current, or low, high or extra high voltage; W, L, H, E.
-#[derive(Clone, Copy)]
+#[derive(Clone, Copy, Debug, PartialEq, Eq)]
 pub enum Connection {
     WholeCurrent,
     LowVoltage,
@@ -25,14 +25,14 @@ pub enum Connection {
 }
 
 // Energised or de-energised: E, D.
-#[derive(Clone, Copy)]
+#[derive(Clone, Copy, Debug, PartialEq, Eq)]
 pub enum Status {
     Energised,
     Deenergised,
 }
 
 // A meter's record, each number unchecked.
-#[derive(Clone, Copy)]
+#[derive(Clone, Copy, Debug, PartialEq, Eq)]
 pub struct MeterRow {
     pub mpan: u64,
     pub segment: Segment,

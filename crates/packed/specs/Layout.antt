@@ -1,10 +1,8 @@
 -- How readings lie in bytes: nine to a place, 48 places to a meter.
-use Rattle.std.specs.Prelude.{ℕ, ◌+◌, ◌*◌, ◌/◌, ◌%◌, cond, List, [], ◌∷◌, ◌++◌, length, take, drop, replicate, None, Option, slice_index}
+use Rattle.std.specs.Prelude.{ℕ, ◌+◌, ◌*◌, ◌/◌, ◌%◌, List, [], ◌∷◌, ◌++◌, take, drop, Option, slice_index}
 use Rattle.readings.specs.declared.reading.Reading.{Reading}
 use Rattle.qualities.specs.Quality.{number_of}
 use Rattle.readings.specs.Numbers.{reading_of}
-use Rattle.stores.specs.Grid.{Grid}
-use Rattle.stores.specs.Date.{meters_of, place_of, is_inside}
 
 -- the number in the four bytes from o on, the highest byte first
 abbrev pub word_at : List ℕ → ℕ → ℕ
@@ -26,18 +24,10 @@ nine_bytes r = four_bytes r.stamp ++ (four_bytes r.volume ++ (number_of r.qualit
 abbrev pub written : List ℕ → ℕ → Reading → List ℕ
 written bs o r = take o bs ++ (nine_bytes r ++ drop (o + 9) bs)
 
--- how many meters find place in n bytes: 432 to a meter
-abbrev pub meters_in : ℕ → ℕ
-meters_in n = meters_of (n / 432)
+-- what a place shows: the reading in its nine bytes
+abbrev pub shown_in : List ℕ → ℕ → Option Reading
+shown_in bs k = reading_at bs (k * 9)
 
--- the first byte of the place of a meter and a period
-abbrev pub first_byte : ℕ → ℕ → ℕ
-first_byte m p = place_of m p * 9
-
--- what the bytes hold
-abbrev pub grid_in : List ℕ → Grid
-grid_in bs m p = cond (is_inside (meters_in (length bs)) m p) (reading_at bs (first_byte m p)) None
-
--- the bytes of a store that was just opened: those of its meters are 0, and the remainder is as it was
-abbrev pub blanked : List ℕ → List ℕ
-blanked bs = replicate (meters_in (length bs) * 432) 0 ++ drop (meters_in (length bs) * 432) bs
+-- the bytes with those of a place replaced by those of a reading, and no other
+abbrev pub written_in : List ℕ → ℕ → Reading → List ℕ
+written_in bs k r = written bs (k * 9) r

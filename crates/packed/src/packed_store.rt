@@ -1,81 +1,54 @@
 // The packed store.
-ghost use Rattle.std.specs.Prelude.{◌≡◌, ℕ, length, is_ok, if◌then◌else◌, None};
-ghost use Rattle.stores.specs.Grid.{one, Put};
-ghost use Rattle.packed.specs.Layout.{meters_in, first_byte, grid_in, written, blanked};
+ghost use Rattle.packed.specs.Layout.{shown_in, written_in};
+ghost use Rattle.packed.specs.Laws.{packed_laws};
 
 use crate::place::{read_place, write_place};
-use market::clock::UtcPeriod;
-use market::refusal::Refusal;
 use readings::reading::Reading;
-use stores::date::{PERIODS, meters_of, place_in};
-use stores::store::Store;
+use stores::date_store::DateStore;
+use stores::layout::Layout;
 
 // The bytes of a place.
 const BYTES_A_PLACE: usize = 9;
 
-// The bytes of a meter: 48 places.
-const BYTES_A_METER: usize = 432;
+// Readings in bytes: nine to a place.
+pub struct Packed;
+
+impl Layout for Packed {
+    type Cell = u8;
+
+    const CELLS: usize = BYTES_A_PLACE;
+
+    ghost CELLS = { 9 };
+
+    ghost blank = { 0 };
+
+    ghost shown = { shown_in };
+
+    ghost written = { written_in };
+
+    ghost laws = { packed_laws };
+
+    fn blank(bytes: &mut [u8]) {
+        bytes.fill(0);
+    }
+
+    fn show(bytes: &[u8], place: usize) -> Option<Reading> {
+        if place < bytes.len() / BYTES_A_PLACE {
+            read_place(bytes, place * BYTES_A_PLACE)
+        } else {
+            None
+        }
+    }
+
+    fn write(bytes: &mut [u8], place: usize, reading: Reading) {
+        if place < bytes.len() / BYTES_A_PLACE {
+            write_place(bytes, place * BYTES_A_PLACE, reading);
+        }
+    }
+}
 
 // One UTC date in bytes that are lent.
-#[derive(Drop)]
-pub struct PackedStore<'a> {
-    bytes: &'a mut [u8],
-}
-
-impl<'a> PackedStore<'a> {
-    // Opens a store over bytes: those of its meters are blanked, the remainder is untouched.
-    pub fn open(bytes: &'a mut [u8]) -> PackedStore<'a>
-        ensures memory { result.bytes.now ≡ blanked bytes.old }
-        ensures empty { (i j : ℕ) → grid_in result.bytes.now i j ≡ None }
-        ensures lent { result.bytes.ghost_name ≡ bytes.entry.ghost_name }
-    {
-        let count = meters_of(bytes.len() / BYTES_A_METER) * BYTES_A_METER;
-        for i in 0..count {
-            bytes[i] = 0;
-        }
-        PackedStore { bytes }
-    }
-}
-
-impl<'a> Store for PackedStore<'a> {
-    type Period = UtcPeriod;
-
-    ghost grid = { λ s. grid_in s.bytes.now };
-
-    ghost meters = { λ s. meters_in (length s.bytes.now) };
-
-    ghost periods = { λ _. 48 };
-
-    ghost fixed = { λ s. one s.bytes.ghost_name };
-
-    fn meter_count(&self) -> usize {
-        meters_of(self.bytes.len() / BYTES_A_METER)
-    }
-
-    fn period_count(&self) -> u8 {
-        PERIODS
-    }
-
-    fn show(&self, meter: usize, period: UtcPeriod) -> Option<Reading> {
-        match place_in(self.bytes.len() / BYTES_A_METER, meter, period) {
-            Some(place) => read_place(self.bytes, place * BYTES_A_PLACE),
-            None => None,
-        }
-    }
-
-    fn put(&mut self, meter: usize, period: UtcPeriod, reading: Reading) -> Result<(), Refusal>
-        ensures grid { Put (λ s. grid_in s.bytes.now) (λ s. meters_in (length s.bytes.now)) (λ _. 48) (λ s. one s.bytes.ghost_name) self.old self.new meter period.0 reading result }
-        ensures memory { self.new.bytes.now ≡ (if is_ok result then written self.old.bytes.now (first_byte meter period.0) reading else self.old.bytes.now) }
-    {
-        match place_in(self.bytes.len() / BYTES_A_METER, meter, period) {
-            Some(place) => {
-                write_place(self.bytes, place * BYTES_A_PLACE, reading);
-                Ok(())
-            }
-            None => Err(Refusal::NoSuch),
-        }
-    }
-}
+pub type PackedStore<'a> = DateStore<'a, Packed>;
 
 #[cfg(test)]
 mod tests;

@@ -1,11 +1,16 @@
 -- Qualities and their numbers: each tells the other.
-use Rattle.std.proofs.Common.{◌≡◌, ℕ, ◌<◌, Bool, true, false, cond, eqb, ltb, get_or, Some, None, refl, ap, subst, arith}
-use Rattle.std.proofs.lemmas.Bool.{eqb-true}
+use Rattle.std.proofs.Common.{◌≡◌, ◌≢◌, ℕ, ◌<◌, Bool, true, eqb, ltb, List, length, get_or, Some, None, Option, Bor, sym, refl, ap, subst, arith}
+use Rattle.std.specs.List.{AllWithin, HoldsAt}
+use Rattle.std.specs.Slice.{IsItemAt}
+use Rattle.std.specs.Option.{MatchOption, ok_or, option_copied}
+use Rattle.std.proofs.lemmas.Bool.{eqb-true, ltb-true, agree_below_at}
+use Rattle.std.proofs.lemmas.Option.{cond_some}
 use Rattle.std.proofs.lemmas.Bool.Decides.{nat_tests}
-use Rattle.market.proofs.Below.{at_below}
 use Rattle.qualities.specs.declared.quality.Quality.{Quality}
+use Rattle.qualities.specs.declared.quality.UnknownQuality.{UnknownQuality}
+use Rattle.qualities.specs.declared.quality.UnknownName.{UnknownName}
 use Rattle.qualities.specs.declared.quality.Quality.TheVariants.{A, A1, A2, A3, AAE1, AAE2, AAE3, E, E1, E2, E3, E4, E5, E6, E7, E8, EA1, EA2, EA3, EA4, EA5, EA6, EA7, EA8, EA9, EA10, EA11, EA12, EAE1, EAE2, EAE3, ZE, ZE1, ZE2, ZE3}
-use Rattle.qualities.specs.Quality.{number_of, qualities, quality_of}
+use Rattle.qualities.specs.Quality.{number_of, text_of, qualities, quality_of, ByNumber, ByText}
 
 pub quality_of_number : (q : Quality) → quality_of (number_of q) ≡ Some q
 quality_of_number A = refl
@@ -52,17 +57,38 @@ same_quality p q e =
     let c = ap quality_of e in
     cc
 
--- whether the list has at a number the quality of that number
-abbrev in_place : ℕ → Bool
-in_place n = eqb (number_of (get_or qualities n A)) n
+-- a quality stands in the list at its number
+placed : (q : Quality) → (number_of q < 35) × (get_or qualities (number_of q) A ≡ q)
+placed q =
+    let both = cond_some (ltb (number_of q) 35) (get_or qualities (number_of q) A) q (quality_of_number q) in
+    (ltb-true (number_of q) 35 both.0, both.1)
 
-found : (n : ℕ) (q : Quality) (b : Bool) → b ≡ ltb n 35 → cond b (Some (get_or qualities n A)) None ≡ Some q → number_of q ≡ n
-found n q true t e =
-    let small : n < 35 = grind (arith, nat_tests) in
-    let same : get_or qualities n A ≡ q = cc in
-    subst (λ (p : Quality). number_of p ≡ n) same (eqb-true (number_of (get_or qualities n A)) n (at_below in_place 35 n refl small))
-found n q false t e = let z : ◌≡◌ {A = ℕ} 0 1 = cc in absurd (omega arith)
+-- whether the list has at a number the quality of that number
+abbrev in_place : Quality → ℕ → Bool
+in_place d n = eqb (number_of (get_or qualities n d)) n
+
+number_at : (n : ℕ) (d : Quality) → n < 35 → number_of (get_or qualities n d) ≡ n
+number_at n d h = eqb-true (number_of (get_or qualities n d)) n (agree_below_at (in_place d) (λ _. true) 35 n refl h)
 
 -- a quality that was found by a number has that number
 pub number_of_quality : (n : ℕ) (q : Quality) → quality_of n ≡ Some q → number_of q ≡ n
-number_of_quality n q e = found n q (ltb n 35) refl e
+number_of_quality n q e =
+    let both = cond_some (ltb n 35) (get_or qualities n A) q e in
+    subst (λ (p : Quality). number_of p ≡ n) both.1 (number_at n A (ltb-true n 35 both.0))
+
+-- what the list has at a number is the quality of that number, or nothing
+pub by_number : (n : ℕ) (o : Option (Bor Quality)) (e : UnknownQuality) → IsItemAt qualities n o → ByNumber n (ok_or (option_copied o) e)
+by_number n (Some x) e h =
+    let small : n < 35 = grind (arith, nat_tests) in
+    subst (λ (p : Quality). number_of p ≡ n) (sym h.1) (number_at n x.now small)
+by_number n None e h = grind (arith, nat_tests)
+
+-- the first quality of the list that is written so is the one, or none is
+pub by_text : (text : List ℕ) (o : Option (Bor Quality)) (e : UnknownName) →
+    MatchOption o (AllWithin (λ q. text ≢ text_of q) qualities 0 (length qualities))
+    (λ x. (text ≡ text_of x.now) × (i : ℕ) × (i < length qualities) × HoldsAt (λ y. y ≡ x.now) qualities i × AllWithin (λ q. text ≢ text_of q) qualities 0 i) →
+    ByText text (ok_or (option_copied o) e)
+by_text text (Some x) e h = h.0
+by_text text None e h = λ q.
+    let at = placed q in
+    subst (λ (p : Quality). text ≢ text_of p) at.1 (h (number_of q) A (omega arith) at.0)

@@ -1,6 +1,8 @@
 -- The quality indicators: their numbers and their names.
-use Rattle.std.specs.Prelude.{◌≡◌, ℕ, ◌≤◌, cond, List, [], ◌∷◌, Some, None, codes, Option, ◌≢◌, nat_lt, slice_index_or}
+use Rattle.std.specs.Prelude.{◌≡◌, ℕ, ◌≤◌, cond, List, [], ◌∷◌, Some, None, Ok, Err, codes, Option, Result, ◌≢◌, nat_lt, slice_index_or}
 use Rattle.qualities.specs.declared.quality.Quality.{Quality}
+use Rattle.qualities.specs.declared.quality.UnknownQuality.{UnknownQuality}
+use Rattle.qualities.specs.declared.quality.UnknownName.{UnknownName}
 use Rattle.qualities.specs.declared.quality.Quality.TheVariants.{A, A1, A2, A3, AAE1, AAE2, AAE3, E, E1, E2, E3, E4, E5, E6, E7, E8, EA1, EA2, EA3, EA4, EA5, EA6, EA7, EA8, EA9, EA10, EA11, EA12, EAE1, EAE2, EAE3, ZE, ZE1, ZE2, ZE3}
 
 -- the number of a quality
@@ -88,14 +90,14 @@ abbrev pub quality_of : ℕ → Option Quality
 quality_of n = cond (nat_lt n 35) (Some (slice_index_or qualities n A)) None
 
 -- the quality of a number; there is none from 35 on
-abbrev pub ByNumber : ℕ → Option Quality → Type 0
-ByNumber n (Some q) = number_of q ≡ n
-ByNumber n None = 35 ≤ n
+abbrev pub ByNumber : ℕ → Result Quality UnknownQuality → Type 0
+ByNumber n (Ok q) = number_of q ≡ n
+ByNumber n (Err e) = 35 ≤ n
 
--- the quality that is written so, or none
-abbrev pub ByText : List ℕ → Option Quality → Type 0
-ByText text (Some q) = text ≡ text_of q
-ByText text None = (q : Quality) → text ≢ text_of q
+-- the quality that is written so, or none is
+abbrev pub ByText : List ℕ → Result Quality UnknownName → Type 0
+ByText text (Ok q) = text ≡ text_of q
+ByText text (Err e) = (q : Quality) → text ≢ text_of q
 
 -- the qualities that say that nothing was used, by number: ZE, ZE1, ZE2 and ZE3 are the last four
 abbrev pub IsZero : ℕ → Type 0

@@ -1,10 +1,17 @@
 // The quality indicators of settlement data.
-ghost use Rattle.std.specs.Prelude.{◌≡◌, Decides};
+ghost use Rattle.std.specs.Prelude.{◌≡◌, Decides, Some, codes};
+ghost use Rattle.std.specs.Fmt.{padded};
+ghost use Rattle.market.specs.declared.refusal.Refusal.TheVariants.{StampOrQuality};
 ghost use Rattle.qualities.specs.Quality.{IsZero, number_of, text_of, ByNumber, ByText};
+
+use market::refusal::Refusal;
+use std::error::Error;
+use std::fmt;
+use std::str::FromStr;
 
 // How a volume came about: measured (A and AAE), estimated (E, EA and EAE) or an estimate of zero (ZE). They are numbered from 0 in
 // this order.
-#[derive(Clone, Copy)]
+#[derive(Clone, Copy, Debug, PartialEq, Eq, PartialOrd, Ord)]
 pub enum Quality {
     A,
     A1,
@@ -43,6 +50,53 @@ pub enum Quality {
     ZE3,
 }
 
+// The qualities in the order of their numbers.
+pub const QUALITIES: [Quality; 35] = [
+    Quality::A,
+    Quality::A1,
+    Quality::A2,
+    Quality::A3,
+    Quality::AAE1,
+    Quality::AAE2,
+    Quality::AAE3,
+    Quality::E,
+    Quality::E1,
+    Quality::E2,
+    Quality::E3,
+    Quality::E4,
+    Quality::E5,
+    Quality::E6,
+    Quality::E7,
+    Quality::E8,
+    Quality::EA1,
+    Quality::EA2,
+    Quality::EA3,
+    Quality::EA4,
+    Quality::EA5,
+    Quality::EA6,
+    Quality::EA7,
+    Quality::EA8,
+    Quality::EA9,
+    Quality::EA10,
+    Quality::EA11,
+    Quality::EA12,
+    Quality::EAE1,
+    Quality::EAE2,
+    Quality::EAE3,
+    Quality::ZE,
+    Quality::ZE1,
+    Quality::ZE2,
+    Quality::ZE3,
+];
+
+// The error of a number that no quality has.
+#[derive(Clone, Copy, Debug, PartialEq, Eq)]
+pub struct UnknownQuality;
+
+// The error of a name that no quality has: another than that of a number, which alone has a refusal.
+#[derive(Clone, Copy, Debug, PartialEq, Eq)]
+pub struct UnknownName;
+
 impl Quality {
     // Its number, 0 to 34.
     pub fn number(self) -> u8
@@ -59,51 +113,6 @@ impl Quality {
             self,
             Quality::ZE | Quality::ZE1 | Quality::ZE2 | Quality::ZE3
         )
-    }
-
-    // The quality of a number, if there is one.
-    pub fn from_number(number: u8) -> Option<Quality>
-        ensures { ByNumber number result }
-    {
-        let quality = match number {
-            0 => Quality::A,
-            1 => Quality::A1,
-            2 => Quality::A2,
-            3 => Quality::A3,
-            4 => Quality::AAE1,
-            5 => Quality::AAE2,
-            6 => Quality::AAE3,
-            7 => Quality::E,
-            8 => Quality::E1,
-            9 => Quality::E2,
-            10 => Quality::E3,
-            11 => Quality::E4,
-            12 => Quality::E5,
-            13 => Quality::E6,
-            14 => Quality::E7,
-            15 => Quality::E8,
-            16 => Quality::EA1,
-            17 => Quality::EA2,
-            18 => Quality::EA3,
-            19 => Quality::EA4,
-            20 => Quality::EA5,
-            21 => Quality::EA6,
-            22 => Quality::EA7,
-            23 => Quality::EA8,
-            24 => Quality::EA9,
-            25 => Quality::EA10,
-            26 => Quality::EA11,
-            27 => Quality::EA12,
-            28 => Quality::EAE1,
-            29 => Quality::EAE2,
-            30 => Quality::EAE3,
-            31 => Quality::ZE,
-            32 => Quality::ZE1,
-            33 => Quality::ZE2,
-            34 => Quality::ZE3,
-            _ => return None,
-        };
-        Some(quality)
     }
 
     // Its name, as it is written in settlement data.
@@ -148,49 +157,73 @@ impl Quality {
             Quality::ZE3 => "ZE3",
         }
     }
+}
 
-    // The quality that is written so, if there is one.
-    pub fn from_text(text: &str) -> Option<Quality>
-        ensures { ByText text.now result }
-    {
-        let quality = match text {
-            "A" => Quality::A,
-            "A1" => Quality::A1,
-            "A2" => Quality::A2,
-            "A3" => Quality::A3,
-            "AAE1" => Quality::AAE1,
-            "AAE2" => Quality::AAE2,
-            "AAE3" => Quality::AAE3,
-            "E" => Quality::E,
-            "E1" => Quality::E1,
-            "E2" => Quality::E2,
-            "E3" => Quality::E3,
-            "E4" => Quality::E4,
-            "E5" => Quality::E5,
-            "E6" => Quality::E6,
-            "E7" => Quality::E7,
-            "E8" => Quality::E8,
-            "EA1" => Quality::EA1,
-            "EA2" => Quality::EA2,
-            "EA3" => Quality::EA3,
-            "EA4" => Quality::EA4,
-            "EA5" => Quality::EA5,
-            "EA6" => Quality::EA6,
-            "EA7" => Quality::EA7,
-            "EA8" => Quality::EA8,
-            "EA9" => Quality::EA9,
-            "EA10" => Quality::EA10,
-            "EA11" => Quality::EA11,
-            "EA12" => Quality::EA12,
-            "EAE1" => Quality::EAE1,
-            "EAE2" => Quality::EAE2,
-            "EAE3" => Quality::EAE3,
-            "ZE" => Quality::ZE,
-            "ZE1" => Quality::ZE1,
-            "ZE2" => Quality::ZE2,
-            "ZE3" => Quality::ZE3,
-            _ => return None,
-        };
-        Some(quality)
+// The quality of a number.
+impl TryFrom<u8> for Quality {
+    type Error = UnknownQuality;
+
+    ghost try_from_gives = { ByNumber };
+
+    fn try_from(number: u8) -> Result<Quality, UnknownQuality> {
+        QUALITIES
+            .get(usize::from(number))
+            .copied()
+            .ok_or(UnknownQuality)
+    }
+}
+
+// The quality that is written so.
+impl FromStr for Quality {
+    type Err = UnknownName;
+
+    ghost from_str_gives = { ByText };
+
+    fn from_str(text: &str) -> Result<Quality, UnknownName> {
+        QUALITIES
+            .iter()
+            .find(|quality| quality.text() == text)
+            .copied()
+            .ok_or(UnknownName)
+    }
+}
+
+// A quality is printed by its name.
+impl fmt::Display for Quality {
+    ghost output = { λ q. Some (text_of q) };
+
+    ghost styled_output = { λ q spec. Some (padded spec (text_of q)) };
+
+    fn fmt<W: fmt::Write>(&self, f: &mut fmt::Formatter<W>) -> fmt::Result {
+        f.pad(self.text())
+    }
+}
+
+impl fmt::Display for UnknownQuality {
+    ghost output = { λ _. Some (codes "no such quality") };
+
+    fn fmt<W: fmt::Write>(&self, f: &mut fmt::Formatter<W>) -> fmt::Result {
+        f.write_str("no such quality")
+    }
+}
+
+impl Error for UnknownQuality {}
+
+impl fmt::Display for UnknownName {
+    ghost output = { λ _. Some (codes "no such name of a quality") };
+
+    fn fmt<W: fmt::Write>(&self, f: &mut fmt::Formatter<W>) -> fmt::Result {
+        f.write_str("no such name of a quality")
+    }
+}
+
+impl Error for UnknownName {}
+
+// The refusal of a number that no quality has.
+impl From<UnknownQuality> for Refusal {
+    ghost from_gives = { λ _ refusal. refusal ≡ StampOrQuality };
+
+    fn from(_unknown: UnknownQuality) -> Refusal {
+        Refusal::StampOrQuality
     }
 }

@@ -14,7 +14,7 @@ pub const LATEST_STAMP: u64 = 4_294_967_295;
 pub const LARGEST_VOLUME: u64 = 1_000_000_000;
 
 // What a data service hands over: a stamp, a volume and a quality number, each unchecked.
-#[derive(Clone, Copy)]
+#[derive(Clone, Copy, Debug, PartialEq, Eq)]
 pub struct Delivery {
     pub stamp: u64,
     pub volume: u64,
@@ -26,12 +26,10 @@ impl Delivery {
     pub fn accept(self, limit: u64) -> Result<Reading, Refusal>
         ensures { Accepted self limit result }
     {
-        if self.stamp < 1 || self.stamp > LATEST_STAMP {
+        if !(1..=LATEST_STAMP).contains(&self.stamp) {
             return Err(Refusal::StampOrQuality);
         }
-        let Some(quality) = Quality::from_number(self.quality) else {
-            return Err(Refusal::StampOrQuality);
-        };
+        let quality = Quality::try_from(self.quality)?;
         if quality.is_zero() && self.volume > 0 {
             return Err(Refusal::VolumeNotZero);
         }
@@ -48,6 +46,7 @@ impl Delivery {
 
 impl Reading {
     // The reading of three numbers, if they make one.
+    #[tactic(auto, using(crate::proofs::Numbers::accepted_is))]
     pub fn from_numbers(stamp: u64, volume: u64, quality: u8) -> Option<Reading>
         ensures { result ≡ reading_of stamp volume quality }
     {

@@ -7,7 +7,7 @@ use qualities::quality::Quality;
 
 // What a meter used in a period of half an hour, as a data service told it. Every value of this type keeps the limits of a reading:
 // its stamp (seconds since 1970), its volume (Wh), and that a zero quality comes with no volume.
-#[derive(Clone, Copy)]
+#[derive(Clone, Copy, Debug, PartialEq, Eq)]
 pub struct Reading {
     pub(crate) stamp: u64,
     pub(crate) volume: u32,

@@ -4,15 +4,15 @@ ghost use Rattle.std.specs.Prelude.{if◌then◌else◌, nat_eq};
 use crate::meter::smart_import;
 use amounts::amount::Amount;
 use amounts::duos_amount::DuosAmount;
+use market::refusal::Refusal;
 use meters::row::Status;
 use meters::used::UsedReading;
 use qualities::quality::Quality;
 use reports::duos::DuosReport;
 use std::test::Fail;
+use totals::account::Account;
 use totals::entries::Entries;
 use totals::entry::Entry;
-use totals::moving::move_total;
-use totals::settling::settle_totals;
 use totals::totals::Totals;
 
 // Two meters whose entries are the same in every period.
@@ -50,16 +50,17 @@ fn entry(volume: u32) -> Entry {
 
 // The volume and the count of the total of a period and place; else the number of the refusal.
 fn total(table: &Totals<'_, DuosAmount>, period: u8, place: usize) -> Result<(u64, u64), u8> {
-    match table.read(period, place) {
-        Ok(amount) => Ok((amount.volume, amount.energised)),
-        Err(refusal) => Err(refusal.number()),
-    }
+    table
+        .read(period, place)
+        .map(|amount| (amount.volume, amount.energised))
+        .map_err(Refusal::number)
 }
 
 // A table over amounts of another number gets 1.
 #[test]
 fn wrong_length(rt: HostRuntime) -> Result<(), Fail> {
     let mut cells = [DuosAmount::nothing(); 511];
+    // By match: tried with `is_err_and`, and no proof covers a closure that takes lent amounts.
     match Totals::over(&mut cells, 2, 256) {
         Ok(_) => assert!(rt; false),
         Err(none) => assert_eq!(rt; none.refusal.number(), 1),
@@ -68,40 +69,32 @@ fn wrong_length(rt: HostRuntime) -> Result<(), Fail> {
         first: entry(10),
         second: entry(30),
     };
-    match settle_totals(&mut cells, 2, &DuosReport, &meters) {
-        Ok(()) => assert!(rt; false),
-        Err(refusal) => assert_eq!(rt; refusal.number(), 1),
-    }
-    match move_total(&mut cells, 2, &DuosReport, 1, entry(10), entry(20)) {
-        Ok(()) => {
-            assert!(rt; false);
-            Ok(())
-        },
-        Err(refusal) => {
-            assert_eq!(rt; refusal.number(), 1);
-            Ok(())
-        },
-    }
+    let mut account = Account {
+        report: &DuosReport,
+        totals: &mut cells,
+    };
+    assert!(rt; !account.fits(2));
+    let settled = account.settle(2, &meters);
+    assert_eq!(rt; settled.map_err(Refusal::number), Err(1));
+    let moved = account.replace(2, 1, entry(10), entry(20));
+    assert_eq!(rt; moved.map_err(Refusal::number), Err(1));
+    Ok(())
 }
 
 // A period or place that does not exist gets 3.
 #[test]
 fn edges(rt: HostRuntime) -> Result<(), Fail> {
     let mut cells = [DuosAmount::nothing(); 512];
-    match Totals::over(&mut cells, 2, 256) {
-        Ok(table) => {
-            assert_eq!(rt; total(&table, 0, 0), Err(3));
-            assert_eq!(rt; total(&table, 1, 0), Ok((0, 0)));
-            assert_eq!(rt; total(&table, 2, 255), Ok((0, 0)));
-            assert_eq!(rt; total(&table, 3, 0), Err(3));
-            assert_eq!(rt; total(&table, 1, 256), Err(3));
-            Ok(())
-        }
-        Err(_) => {
-            assert!(rt; false);
-            Ok(())
-        },
-    }
+    let Ok(table) = Totals::over(&mut cells, 2, 256) else {
+        assert!(rt; false);
+        return Ok(());
+    };
+    assert_eq!(rt; total(&table, 0, 0), Err(3));
+    assert_eq!(rt; total(&table, 1, 0), Ok((0, 0)));
+    assert_eq!(rt; total(&table, 2, 255), Ok((0, 0)));
+    assert_eq!(rt; total(&table, 3, 0), Err(3));
+    assert_eq!(rt; total(&table, 1, 256), Err(3));
+    Ok(())
 }
 
 // Two meters settled, then one of them moved in the second period: place 2 of period p is amount (p - 1) * 256 + 2.
@@ -119,11 +112,19 @@ fn settled_and_moved(rt: HostRuntime) -> Result<(), Fail> {
         estimated: 9,
     };
     let mut cells = [full; 512];
-    settle_totals(&mut cells, 2, &DuosReport, &meters)?;
+    let mut account = Account {
+        report: &DuosReport,
+        totals: &mut cells,
+    };
+    account.settle(2, &meters)?;
     assert_eq!(rt; (cells[2].volume, cells[2].energised), (40, 2));
     assert_eq!(rt; (cells[258].volume, cells[258].energised), (40, 2));
     assert_eq!(rt; (cells[3].volume, cells[0].volume), (0, 0));
-    move_total(&mut cells, 2, &DuosReport, 2, entry(30), entry(7))?;
+    let mut account = Account {
+        report: &DuosReport,
+        totals: &mut cells,
+    };
+    account.replace(2, 2, entry(30), entry(7))?;
     assert_eq!(rt; (cells[2].volume, cells[2].energised), (40, 2));
     assert_eq!(rt; (cells[258].volume, cells[258].energised), (17, 2));
     Ok(())

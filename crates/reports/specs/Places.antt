@@ -17,6 +17,24 @@ IsDuos tariff supplier = (1 ≤ tariff) × (tariff ≤ 32) × (1 ≤ supplier) �
 abbrev pub duos_place : ℕ → ℕ → ℕ
 duos_place tariff supplier = (tariff - 1) * 8 + (supplier - 1)
 
+-- a row, counted from 1, and a column, counted from a first one
+abbrev pub IsRowColumn : ℕ → ℕ → ℕ → ℕ → ℕ → Type 0
+IsRowColumn rows columns first row column = (1 ≤ row) × (row ≤ rows) × (first ≤ column) × (column < first + columns)
+
+-- their place: so many columns to a row
+abbrev pub place_of : ℕ → ℕ → ℕ → ℕ → ℕ
+place_of columns first row column = (row - 1) * columns + (column - first)
+
+-- the place of a row and a column, or none where they do not exist
+abbrev pub Placed : ℕ → ℕ → ℕ → ℕ → ℕ → Option ℕ → Type 0
+Placed rows columns first row column (Some place) = IsRowColumn rows columns first row column × (place ≡ place_of columns first row column)
+Placed rows columns first row column None = IsRowColumn rows columns first row column → ⊥
+
+-- what stands at a place
+abbrev pub StandsAt : ℕ → ℕ → ℕ → ℕ → Option (ℕ × ℕ) → Type 0
+StandsAt rows columns first place (Some at) = IsRowColumn rows columns first at.0 at.1 × (place ≡ place_of columns first at.0 at.1)
+StandsAt rows columns first place None = rows * columns ≤ place
+
 -- the place of a BM Unit and a class, or none where they do not exist
 abbrev pub UnitPlaced : ℕ → ℕ → Option ℕ → Type 0
 UnitPlaced unit class (Some place) = IsUnit unit class × (place ≡ unit_place unit class)

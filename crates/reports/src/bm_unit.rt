@@ -31,10 +31,8 @@ impl Report for BmUnitReport {
     fn place_of(&self, meter: Meter, used: UsedReading) -> Option<usize> {
         let row = meter.row();
         let unit = row.additional_unit.unwrap_or(row.base_unit);
-        match meter.class(used.quality) {
-            Some(class) => unit_place(unit, class),
-            None => None,
-        }
+        let class = meter.class(used.quality)?;
+        unit_place(unit, class)
     }
 
     fn amount_of(&self, _meter: Meter, used: UsedReading, factor: u16) -> BmUnitAmount

@@ -1,6 +1,6 @@
 // The DUoS report.
 ghost use Rattle.std.specs.Prelude.{◌≡◌};
-ghost use Rattle.reports.specs.Duos.{is_actual, is_counted, when, duos_rules, DuosExact};
+ghost use Rattle.reports.specs.Duos.{is_actual, is_counted, duos_rules, DuosExact};
 
 use crate::places::{SUPPLIERS, TARIFFS, duos_place};
 use amounts::duos_amount::DuosAmount;
@@ -28,17 +28,7 @@ fn is_actual(quality: Quality) -> bool
 fn is_counted(quality: Quality) -> bool
     ensures { result ≡ is_counted quality }
 {
-    matches!(
-        quality,
-        Quality::A | Quality::A1 | Quality::A2 | Quality::A3 | Quality::E6
-    )
-}
-
-// A number where a test holds, and else 0.
-fn number_when(test: bool, number: u64) -> u64
-    ensures { result ≡ when test number }
-{
-    if test { number } else { 0 }
+    is_actual(quality) || quality == Quality::E6
 }
 
 impl Report for DuosReport {
@@ -52,10 +42,8 @@ impl Report for DuosReport {
 
     fn place_of(&self, meter: Meter, _used: UsedReading) -> Option<usize> {
         let row = meter.row();
-        match row.tariff {
-            Some(tariff) => duos_place(tariff, row.supplier),
-            None => None,
-        }
+        let tariff = row.tariff?;
+        duos_place(tariff, row.supplier)
     }
 
     fn amount_of(&self, meter: Meter, used: UsedReading, _factor: u16) -> DuosAmount
@@ -63,14 +51,18 @@ impl Report for DuosReport {
         ensures exact { DuosExact meter.row used result }
     {
         let volume = u64::from(used.volume);
-        let energised = matches!(meter.row().status, Status::Energised);
-        let actual = is_actual(used.quality);
+        let energised = meter.row().status == Status::Energised;
+        let (actual, estimated) = if is_actual(used.quality) {
+            (volume, 0)
+        } else {
+            (0, volume)
+        };
         DuosAmount {
             volume,
-            energised: number_when(energised, 1),
-            deenergised: number_when(!energised && is_counted(used.quality), 1),
-            actual: number_when(actual, volume),
-            estimated: number_when(!actual, volume),
+            energised: u64::from(energised),
+            deenergised: u64::from(!energised && is_counted(used.quality)),
+            actual,
+            estimated,
         }
     }
 

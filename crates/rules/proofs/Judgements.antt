@@ -1,17 +1,20 @@
 -- The faults that the checks find are those of the rules.
-use Rattle.std.proofs.Common.{◌≡◌, ℕ, ◌<◌, ◌≤◌, Bool, true, ◌⊎◌, length, Some, None, Ok, Err, Option, Result, sym, refl, ap, ◌∙◌, subst, inl, inr, ⊎_elim, arith}
+use Rattle.std.proofs.Common.{◌≡◌, ℕ, ◌<◌, ◌≤◌, ◌⊎◌, length, Some, None, Ok, Err, Option, Result, sym, refl, ap, ◌∙◌, subst, inl, inr, ⊎_elim, arith}
 use Rattle.market.specs.declared.refusal.Refusal.{Refusal}
 use Rattle.market.specs.Lowest.{Lowest, turned_down}
 use Rattle.readings.specs.declared.delivery.Delivery.{Delivery}
 use Rattle.meters.specs.declared.row.MeterRow.{MeterRow}
 use Rattle.meters.specs.Lawful.{Lawful}
-use Rattle.rules.specs.declared.call.Task.{Task}
+use Rattle.rules.specs.declared.call.Call.{Call}
+use Rattle.rules.specs.declared.revision.Revision.{Revision}
+use Rattle.rules.specs.declared.revision.Revision.TheVariants.{Factor, Shape}
+use Rattle.readings.specs.declared.reading.Reading.{Reading}
 use Rattle.rules.specs.declared.state.State.TheVariants.{Settled}
 use Rattle.rules.specs.Tables.{row_of}
-use Rattle.rules.specs.Asked.{Asked, settle, deliver, amend, factor, shape, close}
+use Rattle.rules.specs.Asked.{Asked, settle, deliver, amend, factor, shape, close, revised}
 use Rattle.rules.specs.Standing.{Standing}
 use Rattle.rules.specs.Joined.{lower, Among}
-use Rattle.rules.specs.Places.{ReadingFault, TablesFault, WholeFault, StoredFault, RowFault, RevisionFault, OneFault}
+use Rattle.rules.specs.Places.{ReadingFault, TablesFault, WholeFault, StoredFault, RowFault, RevisionFault, OneFault, GivenAbove}
 use Rattle.rules.specs.Rules.{FirstFault, RecordFault, ReadFault, DeliverFault, GivenFault, LaterFault, Fault, Ready, Judged, Taken, Cleared}
 use Rattle.rules.proofs.Lowests.{lowest_same, lowest_or, lowest_before, lowest_after}
 use Rattle.rules.proofs.Faults.{table_late}
@@ -157,21 +160,20 @@ module _ (x : Standing) where
       ),
     )
 
-    revision : (Given : Type 0) (above : Bool) → (above ≡ true → Given) → (Given → above ≡ true) → (q : ℕ) (r : Option ℕ) → q ≡ p →
-        Lowest (RevisionFault x.state x.grid x.factors x.shapes x.rows q above) r → Lowest (λ n. ReadFault x (factor k p f) n ⊎ ((n ≡ 6) × Given)) r
-    revision Given above to from q r e h =
-        lowest_same (λ n. InPeriod n ⊎ ((n ≡ 6) × (above ≡ true))) (λ n. ReadFault x (factor k p f) n ⊎ ((n ≡ 6) × Given)) r
-        (λ n. ⊎_elim (λ y. inl (period_read n y)) (λ y. inr (y.0, to y.1)))
-        (λ n. ⊎_elim (λ y. inl (read_period n y)) (λ y. inr (y.0, from y.1)))
-        (subst (λ j. Lowest (RevisionFault x.state x.grid x.factors x.shapes x.rows j above) r) e h)
+    revision : (Given : ℕ → Type 0) (q : ℕ) (r : Option ℕ) → q ≡ p →
+        Lowest (λ n. ((x.state ≡ Settled) × Among (length x.rows) (λ m. RowFault x.grid x.factors x.shapes q (row_of x.rows m) m) n) ⊎ Given n) r →
+        Lowest (λ n. ReadFault x (factor k p f) n ⊎ Given n) r
+    revision Given q r e h =
+        lowest_same (λ n. InPeriod n ⊎ Given n) (λ n. ReadFault x (factor k p f) n ⊎ Given n) r
+        (λ n. ⊎_elim (λ y. inl (period_read n y)) inr)
+        (λ n. ⊎_elim (λ y. inl (read_period n y)) inr)
+        (subst (λ j. Lowest (λ n. ((x.state ≡ Settled) × Among (length x.rows) (λ m. RowFault x.grid x.factors x.shapes j (row_of x.rows m) m) n) ⊎ Given n) r) e h)
 
-    pub factor_faults : (above : Bool) → (above ≡ true → 9999 < f) → (9999 < f → above ≡ true) → (q : ℕ) (r : Option ℕ) → q ≡ p →
-        Lowest (RevisionFault x.state x.grid x.factors x.shapes x.rows q above) r → Lowest (LaterFault x (factor k p f)) r
-    factor_faults above to from = revision (9999 < f) above to from
-
-    pub shape_faults : (above : Bool) → (above ≡ true → 1000000000 < f) → (1000000000 < f → above ≡ true) → (q : ℕ) (r : Option ℕ) → q ≡ p →
-        Lowest (RevisionFault x.state x.grid x.factors x.shapes x.rows q above) r → Lowest (LaterFault x (shape k p f)) r
-    shape_faults above to from = revision (1000000000 < f) above to from
+  -- so does what is given: it is above its limit
+  pub revised_faults : (p : ℕ) (given : Revision) (q : ℕ) (r : Option ℕ) → q ≡ p →
+      Lowest (RevisionFault x.state x.grid x.factors x.shapes x.rows q given) r → Lowest (LaterFault x (revised p given)) r
+  revised_faults p (Factor k f) = revision k p f (GivenAbove (Factor k f))
+  revised_faults p (Shape k v) = revision k p v (GivenAbove (Shape k v))
 
   -- closing reads nothing and is given nothing
   pub close_faults : Lowest (LaterFault x close) None
@@ -201,11 +203,11 @@ module _ (x : Standing) where
   fault_later c r none h = lowest_after (FirstFault x c) (LaterFault x c) r none h
 
   -- a call with no fault as such is judged by what it reads and is given
-  pub judged_later : {P : Type 0} (number : P → ℕ) (c k : Asked) (r : Result (Task P) Refusal) → c ≡ k → Lowest (FirstFault x c) None → Ready x c →
+  pub judged_later : {P : Type 0} (number : P → ℕ) (c k : Asked) (r : Result (Call P Reading) Refusal) → c ≡ k → Lowest (FirstFault x c) None → Ready x c →
       Lowest (LaterFault x k) (turned_down r) → Taken number k r → Judged x c r × Cleared number x c r
   judged_later {P} number c k r e none ready h taken =
       (fault_later c (turned_down r) none (subst (λ a. Lowest (LaterFault x a) (turned_down r)) (sym e) h), cleared r (subst (λ a. Taken number a r) (sym e) taken))
     where
-      cleared : (q : Result (Task P) Refusal) → Taken number c q → Cleared number x c q
+      cleared : (q : Result (Call P Reading) Refusal) → Taken number c q → Cleared number x c q
       cleared (Ok task) t = (ready, t)
       cleared (Err refusal) t = tt

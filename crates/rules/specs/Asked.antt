@@ -7,8 +7,8 @@ use Rattle.readings.specs.Delivery.{Reads}
 use Rattle.rules.specs.declared.state.Event as event
 use Rattle.rules.specs.declared.call.Call.{Call}
 use Rattle.rules.specs.declared.call.Call.TheVariants as call
-use Rattle.rules.specs.declared.call.Task.{Task}
-use Rattle.rules.specs.declared.call.Task.TheVariants as task
+use Rattle.rules.specs.declared.revision.Revision.{Revision}
+use Rattle.rules.specs.declared.revision.Revision.TheVariants as revision
 
 -- which call was made, and the meter, class, period, record, reading, factor or shape given with it
 pub data Asked : Type 0 where
@@ -19,13 +19,17 @@ pub data Asked : Type 0 where
   shape : ℕ → ℕ → ℕ → Asked
   close : Asked
 
+-- setting a factor or a shape in a period
+abbrev pub revised : ℕ → Revision → Asked
+revised p (revision.Factor k f) = factor k p f
+revised p (revision.Shape k v) = shape k p v
+
 -- a call by the numbers of its periods
-abbrev pub asked : {P : Type 0} → (P → ℕ) → Call P → Asked
+abbrev pub asked : {P : Type 0} → (P → ℕ) → Call P Delivery → Asked
 asked number call.Settle = settle
 asked number (call.Deliver m p d) = deliver m (number p) d
 asked number (call.Amend m row) = amend m row
-asked number (call.Factor k p f) = factor k (number p) f
-asked number (call.Shape k p v) = shape k (number p) v
+asked number (call.Revise p r) = revised (number p) r
 asked number call.Close = close
 
 -- what a call does to the state of its day
@@ -46,13 +50,16 @@ pub data Deed : Type 0 where
   reshapes : ℕ → ℕ → ℕ → Deed
   closes : Deed
 
-abbrev pub deed_of : {P : Type 0} → (P → ℕ) → Task P → Deed
-deed_of number task.Settle = settles
-deed_of number (task.Deliver m p r) = delivers m (number p) r
-deed_of number (task.Amend m row) = amends m row
-deed_of number (task.Factor k p f) = refactors k (number p) f
-deed_of number (task.Shape k p v) = reshapes k (number p) v
-deed_of number task.Close = closes
+abbrev pub revises : ℕ → Revision → Deed
+revises p (revision.Factor k f) = refactors k p f
+revises p (revision.Shape k v) = reshapes k p v
+
+abbrev pub deed_of : {P : Type 0} → (P → ℕ) → Call P Reading → Deed
+deed_of number call.Settle = settles
+deed_of number (call.Deliver m p r) = delivers m (number p) r
+deed_of number (call.Amend m row) = amends m row
+deed_of number (call.Revise p r) = revises (number p) r
+deed_of number call.Close = closes
 
 -- what is done is what was asked: the same call with what was given, and the reading of the numbers given
 abbrev pub Matches : Asked → Deed → Type 0

@@ -1,5 +1,5 @@
 -- The faults of one meter's record in one period.
-use Rattle.std.specs.Prelude.{◌≡◌, ℕ, ◌<◌, Bool, true, ◌⊎◌, List, length, Some, None, Ok, Err, Option, Result}
+use Rattle.std.specs.Prelude.{◌≡◌, ℕ, ◌<◌, ◌⊎◌, List, length, Some, None, Ok, Err, Option, Result}
 use Rattle.market.specs.declared.refusal.Refusal.{Refusal}
 use Rattle.readings.specs.declared.reading.Reading.{Reading}
 use Rattle.meters.specs.declared.meter.Meter.{Meter}
@@ -10,6 +10,8 @@ use Rattle.meters.specs.Lawful.{Lawful}
 use Rattle.stores.specs.Grid.{Grid}
 use Rattle.rules.specs.Joined.{Among}
 use Rattle.rules.specs.declared.state.State.{State}
+use Rattle.rules.specs.declared.revision.Revision.{Revision}
+use Rattle.rules.specs.declared.revision.Revision.TheVariants.{Factor, Shape}
 use Rattle.rules.specs.declared.state.State.TheVariants.{Settled}
 use Rattle.rules.specs.Tables.{factor_of, shape_of, row_of}
 
@@ -68,10 +70,19 @@ RowFault grid factors shapes p row m n = LawFault row n ⊎ PlaceFault grid fact
 abbrev pub OneFault : State → Grid → List (Option ℕ) → List (Option ℕ) → MeterRow → ℕ → ℕ → ℕ → Type 0
 OneFault state grid factors shapes row m p n = LawFault row n ⊎ ((state ≡ Settled) × PlaceFault grid factors shapes row m p n)
 
--- the faults of setting a factor or a shape in a period: on a settled day those of all records in it; and 6, what is given is above its limit
-abbrev pub RevisionFault : State → Grid → List (Option ℕ) → List (Option ℕ) → List MeterRow → ℕ → Bool → ℕ → Type 0
-RevisionFault state grid factors shapes rows p above n =
-    ((state ≡ Settled) × Among (length rows) (λ m. RowFault grid factors shapes p (row_of rows m) m) n) ⊎ ((n ≡ 6) × (above ≡ true))
+-- a factor or a shape that is given is above its limit
+abbrev pub RevisedAbove : Revision → Type 0
+RevisedAbove (Factor k f) = 9999 < f
+RevisedAbove (Shape k v) = 1000000000 < v
+
+-- its fault: 6
+abbrev pub GivenAbove : Revision → ℕ → Type 0
+GivenAbove revision n = (n ≡ 6) × RevisedAbove revision
+
+-- the faults of setting a factor or a shape in a period: on a settled day those of all records in it; and that of what is given
+abbrev pub RevisionFault : State → Grid → List (Option ℕ) → List (Option ℕ) → List MeterRow → ℕ → Revision → ℕ → Type 0
+RevisionFault state grid factors shapes rows p revision n =
+    ((state ≡ Settled) × Among (length rows) (λ m. RowFault grid factors shapes p (row_of rows m) m) n) ⊎ GivenAbove revision n
 
 -- the meter of the record
 abbrev pub MeterOf : MeterRow → Result Meter Refusal → Type 0

@@ -6,11 +6,12 @@ use Rattle.market.specs.Lowest.{Lowest, turned_down}
 use Rattle.qualities.specs.declared.quality.Quality.{Quality}
 use Rattle.qualities.specs.Quality.{number_of}
 use Rattle.readings.specs.declared.delivery.Delivery.{Delivery}
+use Rattle.readings.specs.declared.reading.Reading.{Reading}
 use Rattle.readings.specs.Delivery.{DeliveryFault}
 use Rattle.meters.specs.declared.row.MeterRow.{MeterRow}
 use Rattle.meters.specs.Lawful.{Lawful}
 use Rattle.meters.specs.Used.{AdmissionFault}
-use Rattle.rules.specs.declared.call.Task.{Task}
+use Rattle.rules.specs.declared.call.Call.{Call}
 use Rattle.rules.specs.Tables.{row_of}
 use Rattle.rules.specs.Asked.{Asked, settle, deliver, amend, factor, shape, close, event_of, deed_of, Matches}
 use Rattle.rules.specs.States.{Untimely}
@@ -71,11 +72,11 @@ abbrev pub Judged : {T : Type 0} → Standing → Asked → Result T Refusal →
 Judged x c r = Lowest (Fault x c) (turned_down r)
 
 -- what is to be done for a call that was not turned down is what was asked
-abbrev pub Taken : {P : Type 0} → (P → ℕ) → Asked → Result (Task P) Refusal → Type 0
+abbrev pub Taken : {P : Type 0} → (P → ℕ) → Asked → Result (Call P Reading) Refusal → Type 0
 Taken number c (Err e) = Unit {0}
 Taken number c (Ok task) = Matches c (deed_of number task)
 
 -- what is known of a call that was not turned down
-abbrev pub Cleared : {P : Type 0} → (P → ℕ) → Standing → Asked → Result (Task P) Refusal → Type 0
+abbrev pub Cleared : {P : Type 0} → (P → ℕ) → Standing → Asked → Result (Call P Reading) Refusal → Type 0
 Cleared number x c (Err e) = Unit {0}
 Cleared number x c (Ok task) = Ready x c × Matches c (deed_of number task)

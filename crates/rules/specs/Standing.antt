@@ -4,6 +4,8 @@ use Rattle.meters.specs.declared.row.MeterRow.{MeterRow}
 use Rattle.stores.specs.Grid.{Grid}
 use Rattle.rules.specs.declared.state.State.{State}
 use Rattle.rules.specs.declared.sizes.Sizes.{Sizes}
+use Rattle.rules.specs.declared.case.Case.{Case}
+use Rattle.stores.specs.declared.store.Store as store
 use Rattle.rules.specs.Asked.{Asked, settle, deliver, amend, factor, shape, close}
 
 -- the state of the day, the sizes of what was handed over, how many meters and periods the store has and what it shows, and the records,
@@ -30,6 +32,11 @@ standing state sizes ms ps grid rows factors shapes = record {
   shapes = shapes;
 }
 
+-- that of a case, by what its store means
+abbrev pub standing_of : {X P : Type 0} → store.Ghosts X P → Case X → Standing
+standing_of s c =
+    standing c.state c.sizes (s.meters c.sources.store.now) (s.periods c.sources.store.now) (s.grid c.sources.store.now) c.sources.rows.now c.sources.factors.now c.sources.shapes.now
+
 -- P is 1 to 50 and V is 1 to 1,000,000,000; there are meters, and no more than the store has; the store's periods are P; and the tables
 -- are 40 × P factors, 32 × P shapes and for each report P × places of totals
 pub record Sized (x : Standing) : Type 0 where
@@ -42,8 +49,8 @@ pub record Sized (x : Standing) : Type 0 where
   pub same_periods : x.stored_periods ≡ x.sizes.periods
   pub factors : length x.factors ≡ 40 * x.sizes.periods
   pub shapes : length x.shapes ≡ 32 * x.sizes.periods
-  pub first : x.sizes.first_totals ≡ x.sizes.periods * x.sizes.first_places
-  pub second : x.sizes.second_totals ≡ x.sizes.periods * x.sizes.second_places
+  pub first : x.sizes.first.totals ≡ x.sizes.periods * x.sizes.first.places
+  pub second : x.sizes.second.totals ≡ x.sizes.periods * x.sizes.second.places
 
 -- one of so many meters, and of so many periods
 abbrev pub Counted : ℕ → ℕ → Type 0

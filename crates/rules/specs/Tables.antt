@@ -12,6 +12,10 @@ use Rattle.meters.specs.declared.row.Status.TheVariants.{Energised}
 abbrev pub entry_cell : ℕ → ℕ → ℕ → ℕ
 entry_cell classes k p = (p - 1) * classes + (k - 1)
 
+-- that cell, if there are such a class and period
+abbrev pub cell_in : ℕ → ℕ → ℕ → Option ℕ
+cell_in classes k p = cond (nat_le 1 k && (nat_le k classes && nat_le 1 p)) (Some (entry_cell classes k p)) None
+
 -- that entry: none where it is blank, or where there is no such class or period
 abbrev pub entry_in : {X : Type 0} → ℕ → List (Option X) → ℕ → ℕ → Option X
 entry_in classes table k p = cond (nat_le 1 k && (nat_le k classes && nat_le 1 p)) (slice_index_or table (entry_cell classes k p) None) None

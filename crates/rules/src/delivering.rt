@@ -5,7 +5,7 @@ ghost use Rattle.readings.specs.Delivery.{WhenOk};
 ghost use Rattle.rules.specs.Rules.{DeliverFault};
 ghost use Rattle.rules.specs.Places.{OneFault, MeterOf};
 
-use crate::places::check_place;
+use crate::case::Case;
 use crate::state::State;
 use market::refusal::Refusal;
 use meters::meter::Meter;
@@ -14,28 +14,22 @@ use readings::delivery::Delivery;
 use readings::reading::Reading;
 use stores::store::Store;
 
-// The meter of a record, if it is lawful and, on a settled day, has no fault in the period.
-pub fn check_meter<S: Store>(
-    state: State,
-    store: &S,
-    factors: &[Option<u16>],
-    shapes: &[Option<u32>],
-    row: MeterRow,
-    number: usize,
-    period: u8,
-) -> Result<Meter, Refusal>
-    ensures lowest { Lowest (OneFault state (S.grid store.now) factors.now shapes.now row number period) (turned_down result) }
-    ensures meter { MeterOf row result }
-{
-    match Meter::new(row) {
-        Err(refusal) => Err(refusal),
-        Ok(meter) => match state {
-            State::Settled => match check_place(store, factors, shapes, meter, number, period) {
-                Err(refusal) => Err(refusal),
-                Ok(()) => Ok(meter),
-            },
-            _ => Ok(meter),
-        },
+impl<'a, S: Store> Case<'a, S> {
+    // The meter of a record, if it is lawful and, on a settled day, has no fault in the period.
+    pub(crate) fn check_meter(
+        &self,
+        row: MeterRow,
+        number: usize,
+        period: u8,
+    ) -> Result<Meter, Refusal>
+        ensures lowest { Lowest (OneFault self.now.state (S.grid self.now.sources.store.now) self.now.sources.factors.now self.now.sources.shapes.now row number period) (turned_down result) }
+        ensures meter { MeterOf row result }
+    {
+        let meter = Meter::new(row)?;
+        if self.state == State::Settled {
+            self.sources.check_place(meter, number, period)?;
+        }
+        Ok(meter)
     }
 }
 
@@ -44,11 +38,7 @@ pub fn check_delivery(meter: Meter, limit: u64, delivery: Delivery) -> Result<Re
     ensures lowest { Lowest (DeliverFault meter.row limit delivery) (turned_down result) }
     ensures reading { WhenOk delivery result }
 {
-    match delivery.accept(limit) {
-        Err(refusal) => Err(refusal),
-        Ok(reading) => match meter.admit(reading.quality()) {
-            Err(refusal) => Err(refusal),
-            Ok(_) => Ok(reading),
-        },
-    }
+    let reading = delivery.accept(limit)?;
+    meter.admit(reading.quality())?;
+    Ok(reading)
 }

@@ -3,12 +3,15 @@
 
 mod amending;
 pub mod call;
+pub mod case;
 mod delivering;
 mod first;
 pub mod judge;
 mod lowest;
 mod places;
 mod revising;
+pub mod revision;
 pub mod sizes;
+pub mod sources;
 pub mod state;
 pub mod tables;

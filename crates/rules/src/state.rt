@@ -5,7 +5,7 @@ ghost use Rattle.rules.specs.States.{Advanced};
 use market::refusal::Refusal;
 
 // Before it is settled a day is new; a final day takes no more calls.
-#[derive(Clone, Copy)]
+#[derive(Clone, Copy, Debug, PartialEq, Eq)]
 pub enum State {
     New,
     Settled,
@@ -13,7 +13,7 @@ pub enum State {
 }
 
 // What happens to a day, by the call that does it.
-#[derive(Clone, Copy)]
+#[derive(Clone, Copy, Debug, PartialEq, Eq)]
 pub enum Event {
     Settle,
     Deliver,

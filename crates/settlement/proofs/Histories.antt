@@ -4,6 +4,7 @@ use Rattle.std.specs.List.{ContainsAt as Has}
 use Rattle.std.proofs.lemmas.List.{take_more, take_all, length-take-le}
 use Rattle.std.proofs.ByRecursion.{has_push_cases}
 use Rattle.std.proofs.lemmas.List.Sums.{fold_push}
+use Rattle.readings.specs.declared.delivery.Delivery.{Delivery}
 use Rattle.rules.specs.declared.call.Call.{Call}
 use Rattle.rules.specs.declared.state.State.{State}
 use Rattle.rules.specs.declared.state.State.TheVariants.{New}
@@ -18,14 +19,14 @@ use Rattle.settlement.proofs.Keeps.{Good, Vouched, good_kept, keeps_good, keeps_
 
 module _ {P : Type 0} (number : P → ℕ) where
   -- the history of one call more
-  history_push : (cs : List (Call P)) (rs : List Answer) (c : Call P) (r : Answer) → length cs ≡ length rs →
+  history_push : (cs : List (Call P Delivery)) (rs : List Answer) (c : Call P Delivery) (r : Answer) → length cs ≡ length rs →
       history_of number (cs ++ c ∷ []) (rs ++ r ∷ []) ≡ history_of number cs rs ++ (asked number c, r) ∷ []
   history_push [] [] c r e = refl
   history_push [] (x ∷ rs) c r e = absurd (omega arith)
   history_push (y ∷ cs) [] c r e = absurd (omega arith)
   history_push (y ∷ cs) (x ∷ rs) c r e = ap (λ h. (asked number y, x) ∷ h) (history_push cs rs c r (omega arith))
 
-  history_more : (cs : List (Call P)) (rs : List Answer) (i : ℕ) (c : Call P) (r : Answer) → i < length cs → length rs ≡ i → c ≡ get_or cs i c →
+  history_more : (cs : List (Call P Delivery)) (rs : List Answer) (i : ℕ) (c : Call P Delivery) (r : Answer) → i < length cs → length rs ≡ i → c ≡ get_or cs i c →
       history_of number (take (i + 1) cs) (rs ++ r ∷ []) ≡ history_of number (take i cs) rs ++ (asked number c, r) ∷ []
   history_more cs rs i c r l e here =
       ap (λ t. history_of number t (rs ++ r ∷ [])) (take_more cs i c l)
@@ -104,7 +105,7 @@ module _ {X M N : Type 0} (t : Setting X M N) where
   }
 
   -- one turn of the loop
-  pub ran_more : {P : Type 0} (number : P → ℕ) (from : World X M N) (cs : List (Call P)) (rs : List Answer) (i : ℕ) (c : Call P) (r : Answer) (w v : World X M N) →
+  pub ran_more : {P : Type 0} (number : P → ℕ) (from : World X M N) (cs : List (Call P Delivery)) (rs : List Answer) (i : ℕ) (c : Call P Delivery) (r : Answer) (w v : World X M N) →
       i < length cs → length rs ≡ i → c ≡ get_or cs i c → RanFrom from (history_of number (take i cs) rs) w → Step t w (asked number c) r v →
       RanFrom from (history_of number (take (i + 1) cs) (rs ++ r ∷ [])) v
   ran_more number from cs rs i c r w v l e here ran step vouched fresh =
@@ -112,7 +113,7 @@ module _ {X M N : Type 0} (t : Setting X M N) where
       (ran_push from (history_of number (take i cs) rs) w v (asked number c) r vouched (ran vouched fresh) step)
 
   -- the end of the loop
-  pub ran_all : {P : Type 0} (number : P → ℕ) (from : World X M N) (cs : List (Call P)) (rs : List Answer) (i : ℕ) (w : World X M N) → i ≡ length cs → Vouched t from →
+  pub ran_all : {P : Type 0} (number : P → ℕ) (from : World X M N) (cs : List (Call P Delivery)) (rs : List Answer) (i : ℕ) (w : World X M N) → i ≡ length cs → Vouched t from →
       RanFrom from (history_of number (take i cs) rs) w → NoDrift t from (history_of number cs rs) w
   ran_all number from cs rs i w e vouched ran fresh =
       subst (λ h. SettlementRun t from h w) (ap (λ l. history_of number l rs) (take_all i cs (omega arith))) (ran vouched fresh).run

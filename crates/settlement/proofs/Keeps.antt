@@ -236,10 +236,8 @@ module _ {X M N : Type 0} (t : Setting X M N) (from : World X M N) (b : Book) (s
     same_sizes k o acted = λ i. record {
       periods = acted.periods i;
       limit = acted.limit i;
-      first_totals = acted.first_size i;
-      first_places = t.first.rules.places;
-      second_totals = acted.second_size i;
-      second_places = t.second.rules.places;
+      first = record { totals = acted.first_size i; places = t.first.rules.places };
+      second = record { totals = acted.second_size i; places = t.second.rules.places };
     }
 
     -- what a deed leaves as the book has it, whatever it does to the totals and to what is stored

@@ -1,3 +1,4 @@
+pub mod Lents
 pub mod Places
 pub mod Delivers
 pub mod Revisions

@@ -5,7 +5,7 @@ use Rattle.meters.specs.declared.row.MeterRow.{MeterRow}
 use Rattle.stores.specs.Grid.{Grid}
 use Rattle.totals.specs.Holds.{InPeriod}
 use Rattle.rules.specs.Tables.{HasEntry, EntrySet}
-use Rattle.engine.specs.declared.revision.Revision.{Revision}
+use Rattle.rules.specs.declared.revision.Revision.{Revision}
 use Rattle.engine.specs.Changes.{ReviseRight, Revised}
 use Rattle.engine.specs.Revision.{with_entry}
 use Rattle.settlement.specs.World.{ReportMeaning}

@@ -10,6 +10,7 @@ use Rattle.totals.specs.Entry.{part_of}
 use Rattle.totals.specs.Holds.{total_of, AtMostTwo, InPeriod}
 use Rattle.rules.specs.declared.state.State.{State}
 use Rattle.rules.specs.declared.state.State.TheVariants.{New, Settled}
+use Rattle.readings.specs.declared.delivery.Delivery.{Delivery}
 use Rattle.rules.specs.declared.call.Call.{Call}
 use Rattle.rules.specs.Asked.{Asked, settle, deliver, amend, factor, shape, close, asked}
 use Rattle.rules.specs.Standing.{Standing, standing}
@@ -114,7 +115,7 @@ pub data SettlementRun {X M N : Type 0} (t : Setting X M N) (from : World X M N)
       SettlementRun t from (h ++ (c, r) ∷ []) v
 
 -- the history of a list of calls and their answers
-abbrev pub history_of : {P : Type 0} → (P → ℕ) → List (Call P) → List Answer → History
+abbrev pub history_of : {P : Type 0} → (P → ℕ) → List (Call P Delivery) → List Answer → History
 history_of number [] answers = []
 history_of number (c ∷ cs) [] = []
 history_of number (c ∷ cs) (r ∷ rs) = (asked number c, r) ∷ history_of number cs rs
@@ -129,6 +130,6 @@ abbrev pub NoDrift : {X M N : Type 0} → Setting X M N → World X M N → Hist
 NoDrift t from h to = Fresh t from → SettlementRun t from h to
 
 -- a list of calls was made, each of them answered, with no drift; or there was no memory for the answers, and nothing was done
-abbrev pub Replayed : {X M N P : Type 0} → Setting X M N → (P → ℕ) → World X M N → List (Call P) → Result (Vec Answer Global) AllocError → World X M N → Type 0
+abbrev pub Replayed : {X M N P : Type 0} → Setting X M N → (P → ℕ) → World X M N → List (Call P Delivery) → Result (Vec Answer Global) AllocError → World X M N → Type 0
 Replayed t number from calls (Ok answers) to = (vec_len answers ≡ length calls) × NoDrift t from (history_of number calls (vec_items answers)) to
 Replayed t number from calls (Err e) to = to ≡ from

@@ -1,12 +1,19 @@
 -- All that the calls of a day work on, as values.
-use Rattle.std.specs.Prelude.{ℕ, List, length, ℤ, Option}
+use Rattle.std.specs.Prelude.{◌≡◌, ℕ, List, length, ℤ, Option}
 use Rattle.meters.specs.declared.row.MeterRow.{MeterRow}
 use Rattle.stores.specs.Grid.{Grid, Fixed}
 use Rattle.amounts.specs.Laws.{Algebra}
 use Rattle.totals.specs.Rules.{Rules}
 use Rattle.rules.specs.declared.sizes.Sizes.{Sizes}
 use Rattle.rules.specs.Standing.{Standing, standing}
+use Rattle.stores.specs.declared.store.Store as store
+use Rattle.amounts.specs.declared.amount.Amount as amount
+use Rattle.totals.specs.declared.report.Report as report
+use Rattle.totals.specs.declared.account.Account.{Account}
+use Rattle.totals.specs.Account.{SameAccount}
+use Rattle.rules.specs.declared.sources.Sources.{Sources}
 use Rattle.settlement.specs.declared.day.Day.{Day}
+use Rattle.settlement.specs.declared.inputs.Inputs.{Inputs}
 
 -- what a store means: its meters, periods and grid, and what a put never changes
 pub record StoreMeaning (X : Type 0) : Type 0 where
@@ -55,15 +62,37 @@ world day store rows factors shapes first second = record {
   second = second;
 }
 
+-- what the store and the two reports mean
+abbrev pub setting_of : {X P Q M R N : Type 0} → store.Ghosts X P → report.Ghosts Q M → amount.Ghosts M → report.Ghosts R N → amount.Ghosts N → Account Q M → Account R N → Setting X M N
+setting_of s q m r n first second =
+    setting s.meters s.periods s.grid s.fixed m.algebra m.figure (q.rules first.report.now) n.algebra n.figure (r.rules second.report.now)
+
+-- what is handed over
+abbrev pub world_of : {X Q M R N : Type 0} → Day → Inputs X → Account Q M → Account R N → World X M N
+world_of day inputs first second =
+    world day inputs.store.now inputs.rows.now inputs.factors.now inputs.shapes.now first.totals.now second.totals.now
+
+-- the reports are the same, and so is all memory that is lent, whatever is in it
+pub record SameLent {X Q M R N : Type 0} (i : Inputs X) (a : Account Q M) (b : Account R N) (j : Inputs X) (c : Account Q M) (d : Account R N) : Type 0 where
+  pub store : j.store.ghost_name ≡ i.store.ghost_name
+  pub rows : j.rows.ghost_name ≡ i.rows.ghost_name
+  pub factors : j.factors.ghost_name ≡ i.factors.ghost_name
+  pub shapes : j.shapes.ghost_name ≡ i.shapes.ghost_name
+  pub first : SameAccount a c
+  pub second : SameAccount b d
+
+-- what is to be read is what was handed over
+abbrev pub SameSources : {X : Type 0} → Inputs X → Sources X → Type 0
+SameSources i s =
+    (s.store.now ≡ i.store.now) × (s.rows.now ≡ i.rows.now) × (s.factors.now ≡ i.factors.now) × (s.shapes.now ≡ i.shapes.now)
+
 -- its sizes: P and V, and for each report how many totals there are and how many places
 abbrev pub sizes_of : {X M N : Type 0} → Setting X M N → World X M N → Sizes
 sizes_of t w = record {
   periods = w.day.periods;
   limit = w.day.limit;
-  first_totals = length w.first;
-  first_places = t.first.rules.places;
-  second_totals = length w.second;
-  second_places = t.second.rules.places;
+  first = record { totals = length w.first; places = t.first.rules.places };
+  second = record { totals = length w.second; places = t.second.rules.places };
 }
 
 -- what a call is judged on

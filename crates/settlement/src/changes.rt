@@ -1,180 +1,76 @@
 // What amending, and setting a factor or a shape, does, once nothing speaks against it.
-ghost use Rattle.std.specs.Prelude.{◌≡◌, ◌≤◌};
-ghost use Rattle.rules.specs.Asked.{amends, refactors, reshapes};
-ghost use Rattle.rules.specs.Standing.{Sized, Counted, IsMeter, IsPeriod};
-ghost use Rattle.settlement.specs.World.{setting, world, standing_of};
+ghost use Rattle.std.specs.Prelude.{◌≡◌};
+ghost use Rattle.rules.specs.Asked.{amends, revised, revises};
+ghost use Rattle.rules.specs.Standing.{Sized, IsMeter, Named};
+ghost use Rattle.settlement.specs.World.{setting_of, world_of, standing_of, SameLent};
 ghost use Rattle.settlement.specs.Steps.{Acted};
 
 use crate::day::{Day, Outcome};
+use crate::inputs::Inputs;
 use engine::amending::amend_totals;
 use engine::revising::revise_totals;
-use engine::revision::Revision;
 use meters::row::MeterRow;
+use rules::revision::Revision;
 use rules::state::State;
 use rules::tables::{LOSS_CLASSES, SHAPE_CLASSES, set_entry};
+use std::mem::replace;
 use stores::period::Period;
 use stores::store::Store;
+use totals::account::Account;
 use totals::report::Report;
 
-// Replaces a meter's record; on a settled day the totals follow first.
-pub fn act_amend<S: Store, Q: Report, R: Report>(
-    day: &Day,
-    store: &S,
-    rows: &mut [MeterRow],
-    factors: &[Option<u16>],
-    shapes: &[Option<u32>],
-    first_totals: &mut [Q::Amount],
-    first: &Q,
-    second_totals: &mut [R::Amount],
-    second: &R,
+// Replaces a meter's record; on a settled day the totals follow.
+pub(crate) fn act_amend<S: Store, Q: Report, R: Report>(
+    day: &mut Day,
+    inputs: &mut Inputs<'_, S>,
+    first: &mut Account<'_, Q, Q::Amount>,
+    second: &mut Account<'_, R, R::Amount>,
     meter: usize,
     row: MeterRow,
 ) -> Outcome
-    requires sized { let t = setting S.meters S.periods S.grid S.fixed Q.Amount.algebra Q.Amount.figure (Q.rules first.now) R.Amount.algebra R.Amount.figure (R.rules second.now) in let w = world day.now store.now rows.old factors.now shapes.now first_totals.old second_totals.old in Sized (standing_of t w) }
-    requires met { let t = setting S.meters S.periods S.grid S.fixed Q.Amount.algebra Q.Amount.figure (Q.rules first.now) R.Amount.algebra R.Amount.figure (R.rules second.now) in let w = world day.now store.now rows.old factors.now shapes.now first_totals.old second_totals.old in IsMeter (standing_of t w) meter }
-    ensures { let t = setting S.meters S.periods S.grid S.fixed Q.Amount.algebra Q.Amount.figure (Q.rules first.now) R.Amount.algebra R.Amount.figure (R.rules second.now) in let w = world day.now store.now rows.old factors.now shapes.now first_totals.old second_totals.old in let v = world day.now store.now rows.new factors.now shapes.now first_totals.new second_totals.new in Acted t w (amends meter row) result v }
+    requires sized { Sized (standing_of (setting_of S.Store Q.Report Q.Amount.Amount R.Report R.Amount.Amount first.old second.old) (world_of day.old inputs.old first.old second.old)) }
+    requires met { IsMeter (standing_of (setting_of S.Store Q.Report Q.Amount.Amount R.Report R.Amount.Amount first.old second.old) (world_of day.old inputs.old first.old second.old)) meter }
+    ensures acted { Acted (setting_of S.Store Q.Report Q.Amount.Amount R.Report R.Amount.Amount first.old second.old) (world_of day.old inputs.old first.old second.old) (amends meter row) result (world_of day.new inputs.new first.new second.new) }
+    ensures lent { SameLent inputs.old first.old second.old inputs.new first.new second.new }
 {
-    match day.state {
-        State::Settled => {
-            let old = rows[meter - 1];
-            let _ = amend_totals(
-                store,
-                factors,
-                shapes,
-                meter,
-                old,
-                row,
-                day.periods,
-                first_totals,
-                first,
-            );
-            let _ = amend_totals(
-                store,
-                factors,
-                shapes,
-                meter,
-                old,
-                row,
-                day.periods,
-                second_totals,
-                second,
-            );
-            rows[meter - 1] = row;
-            Outcome::Done
-        }
-        _ => {
-            rows[meter - 1] = row;
-            Outcome::Done
-        }
+    let old = replace(&mut inputs.rows[meter - 1], row);
+    if day.state == State::Settled {
+        let periods = day.periods;
+        let sources = inputs.sources();
+        let _ = amend_totals(&sources, first, periods, meter, old, row);
+        let _ = amend_totals(&sources, second, periods, meter, old, row);
     }
+    Outcome::Done
 }
 
-// Sets the factor of a class in a period; on a settled day the totals follow first.
-pub fn act_factor<S: Store, Q: Report, R: Report>(
-    day: &Day,
-    store: &S,
-    rows: &[MeterRow],
-    factors: &mut [Option<u16>],
-    shapes: &[Option<u32>],
-    first_totals: &mut [Q::Amount],
-    first: &Q,
-    second_totals: &mut [R::Amount],
-    second: &R,
-    class: u8,
+// Sets the factor or the shape of a class in a period; on a settled day the totals follow first.
+pub(crate) fn act_revise<S: Store, Q: Report, R: Report>(
+    day: &mut Day,
+    inputs: &mut Inputs<'_, S>,
+    first: &mut Account<'_, Q, Q::Amount>,
+    second: &mut Account<'_, R, R::Amount>,
     period: S::Period,
-    factor: u16,
+    revision: Revision,
 ) -> Outcome
-    requires sized { let t = setting S.meters S.periods S.grid S.fixed Q.Amount.algebra Q.Amount.figure (Q.rules first.now) R.Amount.algebra R.Amount.figure (R.rules second.now) in let w = world day.now store.now rows.now factors.old shapes.now first_totals.old second_totals.old in Sized (standing_of t w) }
-    requires placed { let t = setting S.meters S.periods S.grid S.fixed Q.Amount.algebra Q.Amount.figure (Q.rules first.now) R.Amount.algebra R.Amount.figure (R.rules second.now) in let w = world day.now store.now rows.now factors.old shapes.now first_totals.old second_totals.old in Counted 40 class × IsPeriod (standing_of t w) (S.Period.number period) }
-    ensures { let t = setting S.meters S.periods S.grid S.fixed Q.Amount.algebra Q.Amount.figure (Q.rules first.now) R.Amount.algebra R.Amount.figure (R.rules second.now) in let w = world day.now store.now rows.now factors.old shapes.now first_totals.old second_totals.old in let v = world day.now store.now rows.now factors.new shapes.now first_totals.new second_totals.new in Acted t w (refactors class (S.Period.number period) factor) result v }
+    requires sized { Sized (standing_of (setting_of S.Store Q.Report Q.Amount.Amount R.Report R.Amount.Amount first.old second.old) (world_of day.old inputs.old first.old second.old)) }
+    requires named { Named (standing_of (setting_of S.Store Q.Report Q.Amount.Amount R.Report R.Amount.Amount first.old second.old) (world_of day.old inputs.old first.old second.old)) (revised (S.Period.number period) revision) }
+    ensures acted { Acted (setting_of S.Store Q.Report Q.Amount.Amount R.Report R.Amount.Amount first.old second.old) (world_of day.old inputs.old first.old second.old) (revises (S.Period.number period) revision) result (world_of day.new inputs.new first.new second.new) }
+    ensures lent { SameLent inputs.old first.old second.old inputs.new first.new second.new }
 {
     let number = period.number_of();
-    match day.state {
-        State::Settled => {
-            let revision = Revision::Factor { class, factor };
-            let _ = revise_totals(
-                store,
-                rows,
-                factors,
-                shapes,
-                revision,
-                number,
-                day.periods,
-                first_totals,
-                first,
-            );
-            let _ = revise_totals(
-                store,
-                rows,
-                factors,
-                shapes,
-                revision,
-                number,
-                day.periods,
-                second_totals,
-                second,
-            );
-            let _ = set_entry(factors, LOSS_CLASSES, class, number, factor);
-            Outcome::Done
-        }
-        _ => {
-            let _ = set_entry(factors, LOSS_CLASSES, class, number, factor);
-            Outcome::Done
-        }
+    if day.state == State::Settled {
+        let periods = day.periods;
+        let sources = inputs.sources();
+        let _ = revise_totals(&sources, first, periods, revision, number);
+        let _ = revise_totals(&sources, second, periods, revision, number);
     }
-}
-
-// Sets the shape of a class in a period; on a settled day the totals follow first.
-pub fn act_shape<S: Store, Q: Report, R: Report>(
-    day: &Day,
-    store: &S,
-    rows: &[MeterRow],
-    factors: &[Option<u16>],
-    shapes: &mut [Option<u32>],
-    first_totals: &mut [Q::Amount],
-    first: &Q,
-    second_totals: &mut [R::Amount],
-    second: &R,
-    class: u8,
-    period: S::Period,
-    shape: u32,
-) -> Outcome
-    requires sized { let t = setting S.meters S.periods S.grid S.fixed Q.Amount.algebra Q.Amount.figure (Q.rules first.now) R.Amount.algebra R.Amount.figure (R.rules second.now) in let w = world day.now store.now rows.now factors.now shapes.old first_totals.old second_totals.old in Sized (standing_of t w) }
-    requires placed { let t = setting S.meters S.periods S.grid S.fixed Q.Amount.algebra Q.Amount.figure (Q.rules first.now) R.Amount.algebra R.Amount.figure (R.rules second.now) in let w = world day.now store.now rows.now factors.now shapes.old first_totals.old second_totals.old in Counted 32 class × IsPeriod (standing_of t w) (S.Period.number period) }
-    ensures { let t = setting S.meters S.periods S.grid S.fixed Q.Amount.algebra Q.Amount.figure (Q.rules first.now) R.Amount.algebra R.Amount.figure (R.rules second.now) in let w = world day.now store.now rows.now factors.now shapes.old first_totals.old second_totals.old in let v = world day.now store.now rows.now factors.now shapes.new first_totals.new second_totals.new in Acted t w (reshapes class (S.Period.number period) shape) result v }
-{
-    let number = period.number_of();
-    match day.state {
-        State::Settled => {
-            let revision = Revision::Shape { class, shape };
-            let _ = revise_totals(
-                store,
-                rows,
-                factors,
-                shapes,
-                revision,
-                number,
-                day.periods,
-                first_totals,
-                first,
-            );
-            let _ = revise_totals(
-                store,
-                rows,
-                factors,
-                shapes,
-                revision,
-                number,
-                day.periods,
-                second_totals,
-                second,
-            );
-            let _ = set_entry(shapes, SHAPE_CLASSES, class, number, shape);
-            Outcome::Done
+    let _ = match revision {
+        Revision::Factor { class, factor } => {
+            set_entry(inputs.factors, LOSS_CLASSES, class, number, factor)
         }
-        _ => {
-            let _ = set_entry(shapes, SHAPE_CLASSES, class, number, shape);
-            Outcome::Done
+        Revision::Shape { class, shape } => {
+            set_entry(inputs.shapes, SHAPE_CLASSES, class, number, shape)
         }
-    }
+    };
+    Outcome::Done
 }

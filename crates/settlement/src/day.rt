@@ -13,7 +13,7 @@ pub struct Day {
 }
 
 // What a call that was not turned down has done: it is done, or a delivery was superseded and nothing changed.
-#[derive(Clone, Copy)]
+#[derive(Clone, Copy, Debug, PartialEq, Eq)]
 pub enum Outcome {
     Done,
     Superseded,

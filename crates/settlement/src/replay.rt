@@ -1,53 +1,40 @@
 // Any list of calls on a day.
 ghost use Rattle.std.specs.Prelude.{◌≡◌, ◌≤◌, [], length, vec_len, vec_capacity};
-ghost use Rattle.settlement.specs.World.{setting, world};
+ghost use Rattle.settlement.specs.World.{setting_of, world_of, SameLent};
 ghost use Rattle.settlement.specs.Runs.{history_of, NoDrift, Replayed};
 
 use crate::day::{Day, Outcome};
+use crate::inputs::Inputs;
 use crate::perform::perform;
 use market::refusal::Refusal;
-use meters::row::MeterRow;
+use readings::delivery::Delivery;
 use rules::call::Call;
 use std::alloc::{AllocError, Global};
 use stores::store::Store;
+use totals::account::Account;
 use totals::exactness::vouch_totals;
 use totals::report::Report;
 
 // Makes the calls one after the other, and notes each answer where there is room for all of them.
 fn run_all<S: Store, Q: Report, R: Report>(
     day: &mut Day,
-    store: &mut S,
-    rows: &mut [MeterRow],
-    factors: &mut [Option<u16>],
-    shapes: &mut [Option<u32>],
-    first_totals: &mut [Q::Amount],
-    first: &Q,
-    second_totals: &mut [R::Amount],
-    second: &R,
-    calls: &[Call<S::Period>],
+    inputs: &mut Inputs<'_, S>,
+    first: &mut Account<'_, Q, Q::Amount>,
+    second: &mut Account<'_, R, R::Amount>,
+    calls: &[Call<S::Period, Delivery>],
     answers: &mut Vec<Result<Outcome, Refusal>>,
 )
     requires empty { (answers.old.items ≡ []) × (vec_len answers.old ≡ 0) }
     requires room { length calls.now ≤ vec_capacity answers.old }
     ensures count { vec_len answers.new ≡ length calls.now }
-    ensures run { let t = setting S.meters S.periods S.grid S.fixed Q.Amount.algebra Q.Amount.figure (Q.rules first.now) R.Amount.algebra R.Amount.figure (R.rules second.now) in let w = world day.old store.old rows.old factors.old shapes.old first_totals.old second_totals.old in let v = world day.new store.new rows.new factors.new shapes.new first_totals.new second_totals.new in NoDrift t w (history_of S.Period.number calls.now answers.new.items) v }
+    ensures run { NoDrift (setting_of S.Store Q.Report Q.Amount.Amount R.Report R.Amount.Amount first.old second.old) (world_of day.old inputs.old first.old second.old) (history_of S.Period.number calls.now answers.new.items) (world_of day.new inputs.new first.new second.new) }
+    ensures lent { SameLent inputs.old first.old second.old inputs.new first.new second.new }
 {
-    vouch_totals(first);
-    vouch_totals(second);
-    let _ = (*store).meter_count();
-    for i in 0..calls.len() {
-        let answer = perform(
-            day,
-            store,
-            rows,
-            factors,
-            shapes,
-            first_totals,
-            first,
-            second_totals,
-            second,
-            calls[i],
-        );
+    vouch_totals(first.report);
+    vouch_totals(second.report);
+    let _ = inputs.store.meter_count();
+    for call in calls {
+        let answer = perform(day, inputs, first, second, *call);
         answers.push_reserved(answer);
     }
 }
@@ -56,36 +43,15 @@ fn run_all<S: Store, Q: Report, R: Report>(
 pub fn replay<S: Store, Q: Report, R: Report>(
     heap: Global,
     day: &mut Day,
-    store: &mut S,
-    rows: &mut [MeterRow],
-    factors: &mut [Option<u16>],
-    shapes: &mut [Option<u32>],
-    first_totals: &mut [Q::Amount],
-    first: &Q,
-    second_totals: &mut [R::Amount],
-    second: &R,
-    calls: &[Call<S::Period>],
+    inputs: &mut Inputs<'_, S>,
+    first: &mut Account<'_, Q, Q::Amount>,
+    second: &mut Account<'_, R, R::Amount>,
+    calls: &[Call<S::Period, Delivery>],
 ) -> Result<Vec<Result<Outcome, Refusal>>, AllocError>
-    ensures { let t = setting S.meters S.periods S.grid S.fixed Q.Amount.algebra Q.Amount.figure (Q.rules first.now) R.Amount.algebra R.Amount.figure (R.rules second.now) in let w = world day.old store.old rows.old factors.old shapes.old first_totals.old second_totals.old in let v = world day.new store.new rows.new factors.new shapes.new first_totals.new second_totals.new in Replayed t S.Period.number w calls.now result v }
+    ensures replayed { Replayed (setting_of S.Store Q.Report Q.Amount.Amount R.Report R.Amount.Amount first.old second.old) S.Period.number (world_of day.old inputs.old first.old second.old) calls.now result (world_of day.new inputs.new first.new second.new) }
+    ensures lent { SameLent inputs.old first.old second.old inputs.new first.new second.new }
 {
-    match Vec::with_capacity(heap, calls.len()) {
-        Err(error) => Err(error),
-        Ok(made) => {
-            let mut answers = made;
-            run_all(
-                day,
-                store,
-                rows,
-                factors,
-                shapes,
-                first_totals,
-                first,
-                second_totals,
-                second,
-                calls,
-                &mut answers,
-            );
-            Ok(answers)
-        }
-    }
+    let mut answers = Vec::with_capacity(heap, calls.len())?;
+    run_all(day, inputs, first, second, calls, &mut answers);
+    Ok(answers)
 }

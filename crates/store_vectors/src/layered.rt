@@ -12,10 +12,7 @@ use stores::store::Store;
 
 // The volume of a reading, or 0 where there is none.
 fn volume(shown: Option<Reading>) -> u32 {
-    match shown {
-        Some(reading) => reading.volume(),
-        None => 0,
-    }
+    shown.map_or(0, Reading::volume)
 }
 
 // Puts the volume p into each Settlement Period p of a day, through a window on it.
@@ -38,13 +35,7 @@ fn fill<S: Store<Period = SettlementPeriod>>(rt: &impl Abort, day: &mut S) -> Re
 
 // The volumes that a date holds for meter 2 in the first two, the last two and a middle UTC period.
 fn volumes<S: Store<Period = UtcPeriod>>(date: &S) -> [u32; 5] {
-    let mut all = [0; 5];
-    for (i, u) in [1, 2, 24, 47, 48].iter().enumerate() {
-        if i < 5 {
-            all[i] = volume(date.show(2, UtcPeriod(*u)));
-        }
-    }
-    all
+    [1, 2, 24, 47, 48].map(|u| volume(date.show(2, UtcPeriod(u))))
 }
 
 #[test]

@@ -1,25 +1,12 @@
 // The record store and the packed store over memory of odd lengths.
 use market::clock::UtcPeriod;
+use market::refusal::Refusal;
 use packed::packed_store::PackedStore;
 use readings::delivery::Delivery;
-use readings::reading::Reading;
 use records::record_store::RecordStore;
 use std::process::Abort;
 use std::test::Fail;
 use stores::store::Store;
-
-// What a put answers: 0, or the number of its refusal.
-fn put<S: Store<Period = UtcPeriod>>(
-    store: &mut S,
-    meter: usize,
-    period: u8,
-    reading: Reading,
-) -> u8 {
-    match store.put(meter, UtcPeriod(period), reading) {
-        Ok(()) => 0,
-        Err(refusal) => refusal.number(),
-    }
-}
 
 // The edges of a store with one meter: puts inside are taken and shown, outside they get 3 and nothing is shown.
 fn check_one_meter<S: Store<Period = UtcPeriod>>(
@@ -34,17 +21,19 @@ fn check_one_meter<S: Store<Period = UtcPeriod>>(
     .accept(1000)?;
     assert_eq!(rt; (store.meter_count(), store.period_count()), (1, 48));
     for (meter, period, want) in [
-        (1, 1, 0),
-        (1, 48, 0),
-        (1, 0, 3),
-        (1, 49, 3),
-        (0, 1, 3),
-        (2, 1, 3),
-        (usize::MAX, 255, 3),
+        (1, 1, Ok(())),
+        (1, 48, Ok(())),
+        (1, 0, Err(3)),
+        (1, 49, Err(3)),
+        (0, 1, Err(3)),
+        (2, 1, Err(3)),
+        (usize::MAX, 255, Err(3)),
     ] {
-        assert!(rt; store.show(meter, UtcPeriod(period)).is_none());
-        assert_eq!(rt; put(store, meter, period, reading), want);
-        assert_eq!(rt; store.show(meter, UtcPeriod(period)).is_some(), want == 0);
+        let period = UtcPeriod(period);
+        assert!(rt; store.show(meter, period).is_none());
+        let put = store.put(meter, period, reading);
+        assert_eq!(rt; put.map_err(Refusal::number), want);
+        assert_eq!(rt; store.show(meter, period).is_some(), want.is_ok());
     }
     Ok(())
 }
@@ -63,12 +52,8 @@ fn bytes_of_odd_length(rt: HostRuntime) -> Result<(), Fail> {
         [0, 7, 3, 132, 0]
     );
     // nothing between, and the remainder is untouched
-    for i in 9..423 {
-        assert_eq!(rt; bytes[i], 0);
-    }
-    for i in 432..863 {
-        assert_eq!(rt; bytes[i], 0xaa);
-    }
+    assert!(rt; bytes[9..423].iter().all(|byte| *byte == 0));
+    assert!(rt; bytes[432..863].iter().all(|byte| *byte == 0xaa));
     Ok(())
 }
 
@@ -82,12 +67,8 @@ fn records_of_odd_length(rt: HostRuntime) -> Result<(), Fail> {
     .accept(1000)?;
     let mut records = [Some(other); 95];
     check_one_meter(&rt, &mut RecordStore::open(&mut records))?;
-    for i in 1..47 {
-        assert!(rt; records[i].is_none());
-    }
-    for i in 48..95 {
-        assert!(rt; records[i].is_some());
-    }
+    assert!(rt; records[1..47].iter().all(|record| record.is_none()));
+    assert!(rt; records[48..95].iter().all(|record| record.is_some()));
     Ok(())
 }
 

@@ -19,7 +19,7 @@ pub fn place_in(room: usize, meter: usize, period: UtcPeriod) -> Option<usize>
     ensures value { result ≡ (if is_inside (meters_of room) meter period.0 then Some (place_of meter period.0) else None) }
     ensures fits { IfSome result (λ place. place < meters_of room * 48) }
 {
-    if meter >= 1 && meter <= meters_of(room) && period.0 >= 1 && period.0 <= PERIODS {
+    if (1..=meters_of(room)).contains(&meter) && (1..=PERIODS).contains(&period.0) {
         Some((meter - 1) * 48 + (period.0 as usize - 1))
     } else {
         None

@@ -2,5 +2,7 @@
 #![tactic(auto)]
 
 pub mod date;
+pub mod date_store;
+pub mod layout;
 pub mod period;
 pub mod store;

@@ -6,6 +6,7 @@ use crate::period::Period;
 use market::refusal::Refusal;
 use readings::reading::Reading;
 
+// A place is told by its meter and its period: a struct of both would be made only to be taken apart.
 // A store has meters and periods, counted from 1, and for each of both nothing or one reading: that is its grid. All that is said of a
 // store is said of its grid.
 pub trait Store {

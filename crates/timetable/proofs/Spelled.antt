@@ -1,7 +1,6 @@
 -- A date's text, digit by digit.
-use Rattle.std.proofs.Common.{◌≡◌, ℕ, ◌+◌, ◌*◌, ◌/◌, ◌%◌, ◌<◌, ◌≤◌, true, false, ltb, List, [], ◌∷◌, ◌++◌, length, get_or, Some, None, Ok, Err, decimal, Option, Result, refl, ap, ◌∙◌, ⊎_elim, arith}
+use Rattle.std.proofs.Common.{◌≡◌, ℕ, ◌/◌, ◌%◌, ◌<◌, ◌≤◌, true, false, ltb, List, [], ◌∷◌, ◌++◌, Some, None, Ok, Err, decimal, Option, Result, ap, ◌∙◌, ⊎_elim, arith}
 use Rattle.std.specs.Result.{result_ok}
-use Rattle.std.proofs.lemmas.List.FromFn.{fill_by_all}
 use Rattle.std.proofs.lemmas.Fmt.{decimal_digit, decimal_step}
 use Rattle.std.proofs.lemmas.Bool.{cases_lt}
 use Rattle.std.proofs.lemmas.Bool.Decides.{nat_tests}
@@ -10,22 +9,7 @@ use Rattle.market.specs.declared.date.Date.{Date}
 use Rattle.market.specs.Calendar.{days_in}
 use Rattle.market.specs.Dates.{Dated}
 use Rattle.timetable.specs.Text.{two_digits, date_text}
-use Rattle.timetable.specs.Word.{tens, ones, TwoRead, spelled, ReadsDate}
-
--- a list of ten, written out
-ten : (w : List ℕ) → length w ≡ 10 → w ≡ get_or w 0 0 ∷ get_or w 1 0 ∷ get_or w 2 0 ∷ get_or w 3 0 ∷ get_or w 4 0 ∷ get_or w 5 0 ∷ get_or w 6 0 ∷ get_or w 7 0 ∷ get_or w 8 0 ∷ get_or w 9 0 ∷ []
-ten w h = fill_by_all (λ k. get_or w k 0) w 10 0 h (λ k l. refl)
-
--- what four pairs of digits and two hyphens spell
-pub from_pairs : (w : List ℕ) (c y m d : ℕ) → length w ≡ 10 → get_or w 4 0 ≡ 45 → get_or w 7 0 ≡ 45 →
-    TwoRead (get_or w 0 0) (get_or w 1 0) (Some c) → TwoRead (get_or w 2 0) (get_or w 3 0) (Some y) →
-    TwoRead (get_or w 5 0) (get_or w 6 0) (Some m) → TwoRead (get_or w 8 0) (get_or w 9 0) (Some d) →
-    w ≡ spelled (100 * c + y) m d
-from_pairs w c y m d l p q h i j k =
-    let list = ten w l in
-    let century : (100 * c + y) / 100 ≡ c = omega arith in
-    let year : (100 * c + y) % 100 ≡ y = omega arith in
-    cc
+use Rattle.timetable.specs.Word.{tens, ones, spelled, ReadsDate}
 
 -- the two digits of a number below 100
 pair : (n : ℕ) → 10 ≤ n → n < 100 → decimal n ≡ tens n ∷ ones n ∷ []

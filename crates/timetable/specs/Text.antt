@@ -7,13 +7,17 @@ use Rattle.market.specs.declared.clock_time.Zone.{Zone}
 use Rattle.market.specs.declared.clock_time.Zone.TheVariants.{Gmt, Bst}
 use Rattle.market.specs.declared.clock_time.ClockTime.{ClockTime}
 
--- a number below 100 with a zero in front if it has one digit
-abbrev pub two_digits : ℕ → List ℕ
-two_digits n = cond (nat_lt n 10) (codes "0" ++ decimal n) (decimal n)
+-- a number below 100 in two places, with a fill in front if it has one digit
+abbrev pub in_two : List ℕ → ℕ → List ℕ
+in_two fill n = cond (nat_lt n 10) (fill ++ decimal n) (decimal n)
 
--- the same with a space
+-- the fill is a zero
+abbrev pub two_digits : ℕ → List ℕ
+two_digits n = in_two (codes "0") n
+
+-- the fill is a space
 abbrev pub two_columns : ℕ → List ℕ
-two_columns n = cond (nat_lt n 10) (codes " " ++ decimal n) (decimal n)
+two_columns n = in_two (codes " ") n
 
 -- a date, as 2025-03-30
 abbrev pub date_text : Date → List ℕ

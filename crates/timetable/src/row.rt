@@ -2,7 +2,7 @@
 ghost use Rattle.std.specs.Prelude.{Some};
 ghost use Rattle.timetable.specs.Row.{UtcDated, Rowed, row_text};
 
-use crate::text::{DateText, TimeText, TwoColumns};
+use crate::text::{DateText, TimeText};
 use market::clock::{ClockPlace, SettlementPeriod, UtcDate, UtcPeriod, convert};
 use market::clock_time::{ClockTime, ends_at};
 use market::date::Date;
@@ -10,7 +10,7 @@ use market::refusal::Refusal;
 use std::fmt;
 
 // A Settlement Period: the clock time at which it ends, and the UTC date and period that it is.
-#[derive(Clone, Copy)]
+#[derive(Clone, Copy, Debug, PartialEq, Eq)]
 pub struct Row {
     pub period: SettlementPeriod,
     pub ends: ClockTime,
@@ -35,26 +35,28 @@ impl Row {
     {
         let kind = day.kind();
         let ends = ends_at(kind, period)?;
-        match convert(kind, ClockPlace::Settlement(period))? {
-            Some(ClockPlace::Utc(date, utc)) => Ok(Row {
-                period,
-                ends,
-                date: utc_date(day, date)?,
-                utc,
-            }),
-            _ => unreachable(),
-        }
+        let place = convert(kind, ClockPlace::Settlement(period))?;
+        let Some(ClockPlace::Utc(date, utc)) = place else {
+            unreachable()
+        };
+        Ok(Row {
+            period,
+            ends,
+            date: utc_date(day, date)?,
+            utc,
+        })
     }
 }
 
 impl fmt::Display for Row {
     ghost output = { λ r. Some (row_text r) };
 
+    #[tactic(auto, using(crate::proofs::Padded::space_filled))]
     fn fmt<W: fmt::Write>(&self, f: &mut fmt::Formatter<W>) -> fmt::Result {
-        let period = TwoColumns(self.period.0);
+        let period = self.period.0;
         let ends = TimeText(self.ends);
         let date = DateText(self.date);
-        let utc = TwoColumns(self.utc.0);
-        write!(f, "    {period}  {ends}  {date}          {utc}")
+        let utc = self.utc.0;
+        write!(f, "    {period:2}  {ends}  {date}          {utc:2}")
     }
 }

@@ -8,6 +8,7 @@ use market::clock::{DayKind, SettlementPeriod};
 use market::date::Date;
 use std::alloc::{AllocError, Global};
 use std::fmt;
+use std::fmt::Write;
 
 // The two lines above the periods: the date, its kind and its number of periods, and the names of the columns.
 #[derive(Clone, Copy)]
@@ -37,14 +38,9 @@ pub fn table(heap: Global, day: Date) -> Result<String, AllocError>
     let kind = day.kind();
     let heading = Heading { day, kind };
     let mut text = format!(in heap; "{heading}")?;
-    for above in 0..kind.periods() {
-        match Row::new(day, SettlementPeriod(above + 1)) {
-            Ok(row) => {
-                let line = format!(in heap; "{row}\n")?;
-                text.push_str(line.as_str())?;
-            }
-            Err(_) => unreachable(),
-        }
+    for period in 1..=kind.periods() {
+        let row = Row::new(day, SettlementPeriod(period)).unwrap();
+        writeln!(text, "{row}")?;
     }
     Ok(text)
 }

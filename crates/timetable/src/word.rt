@@ -7,32 +7,30 @@ use market::date::Date;
 fn two_digits(tens: u8, ones: u8) -> Option<u8>
     ensures { TwoRead tens ones result }
 {
-    if !tens.is_ascii_digit() || !ones.is_ascii_digit() {
-        return None;
-    }
-    Some(10 * (tens - b'0') + (ones - b'0'))
+    let tens = char::from(tens).to_digit(10)?;
+    let ones = char::from(ones).to_digit(10)?;
+    Some((10 * tens + ones) as u8)
 }
 
 // The year, month and day that the word has, or none where it is not in the form 2025-03-30.
 fn parts(word: &[u8]) -> Option<(u16, u8, u8)>
     ensures { PartsRead word.now result }
 {
-    if word.len() != 10 || word[4] != b'-' || word[7] != b'-' {
+    let &[y0, y1, y2, y3, b'-', m0, m1, b'-', d0, d1] = word else {
         return None;
-    }
-    let century = two_digits(word[0], word[1])?;
-    let year = two_digits(word[2], word[3])?;
-    let month = two_digits(word[5], word[6])?;
-    let day = two_digits(word[8], word[9])?;
+    };
+    let century = two_digits(y0, y1)?;
+    let year = two_digits(y2, y3)?;
+    let month = two_digits(m0, m1)?;
+    let day = two_digits(d0, d1)?;
     Some((100 * u16::from(century) + u16::from(year), month, day))
 }
 
 // The date that the word is, as 2025-03-30, or none where it is no date of the years 2024 to 2055.
+#[tactic(auto, using(crate::proofs::Spelled::date_spelled, crate::proofs::Spelled::read_parts))]
 pub fn read_date(word: &[u8]) -> Option<Date>
     ensures { ReadsDate word.now result }
 {
-    match parts(word) {
-        Some((year, month, day)) => Date::new(year, month, day).ok(),
-        None => None,
-    }
+    let (year, month, day) = parts(word)?;
+    Date::new(year, month, day).ok()
 }

@@ -10,16 +10,12 @@ use Rattle.totals.specs.Entry.{part_of}
 use Rattle.totals.specs.Table.{HasTotal, total_at, total_in, SameTable, Cleared}
 use Rattle.totals.specs.Moves.{Shifted}
 use Rattle.totals.specs.Holds.{Entries, total_of, Holds}
-use Rattle.totals.specs.Settling.{Raised, Filled}
+use Rattle.totals.specs.Settling.{Added, Raised, Filled}
 
 same_then : {M : Type 0} (t u v : Totals M) → SameTable t u → SameTable u v → SameTable t v
 same_then t u v h k = (k.0 ∙ h.0, k.1 ∙ h.1, k.2 ∙ h.2)
 
--- the entries of n meters have been added to the totals of a period
-abbrev pub Added : {M : Type 0} → Algebra M → Rules M → Entries → ℕ → ℕ → Totals M → Totals M → Type 0
-Added a rules entries period n before after = Shifted a period (λ q total. a.plus total (total_of a rules entries n period q)) before after
-
--- those of all n meters have been added to the totals of the periods below i
+-- what the entries of n meters bring has been added to the totals of the periods below i
 abbrev pub RaisedBelow : {M : Type 0} → Algebra M → Rules M → Entries → ℕ → ℕ → Totals M → Totals M → Type 0
 RaisedBelow a rules entries n i before after =
     SameTable before after

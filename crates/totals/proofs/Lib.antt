@@ -4,3 +4,4 @@ pub mod Exchanges
 pub mod Fills
 pub mod Chains
 pub mod Smallness
+pub mod Accounts

@@ -6,3 +6,4 @@ pub mod Holds
 pub mod Settling
 pub mod Moving
 pub mod Exactness
+pub mod Account

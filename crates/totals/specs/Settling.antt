@@ -6,7 +6,12 @@ use Rattle.amounts.specs.Laws.{Algebra}
 use Rattle.totals.specs.declared.totals.Totals.{Totals}
 use Rattle.totals.specs.Rules.{Rules}
 use Rattle.totals.specs.Table.{HasTotal, total_in, SameTable}
+use Rattle.totals.specs.Moves.{Shifted}
 use Rattle.totals.specs.Holds.{Entries, total_of, Holds}
+
+-- what the entries of n meters bring is added to the totals of a period
+abbrev pub Added : {M : Type 0} → Algebra M → Rules M → Entries → ℕ → ℕ → Totals M → Totals M → Type 0
+Added a rules entries period n before after = Shifted a period (λ q total. a.plus total (total_of a rules entries n period q)) before after
 
 -- to every total of a table is added what the entries of n meters bring
 pub record Raised {M : Type 0} (a : Algebra M) (rules : Rules M) (entries : Entries) (n : ℕ) (before after : Totals M) : Type 0 where

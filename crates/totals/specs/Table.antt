@@ -1,5 +1,5 @@
 -- The table of totals.
-use Rattle.std.specs.Prelude.{◌≡◌, ℕ, ◌+◌, ◌-◌, ◌*◌, ◌<◌, ◌≤◌, List, length, Ok, Err, Result, slice_index_or, slice_set}
+use Rattle.std.specs.Prelude.{◌≡◌, ℕ, ◌+◌, ◌-◌, ◌*◌, ◌<◌, ◌≤◌, List, length, Some, None, Option, Ok, Err, Result, slice_index_or, slice_set}
 use Rattle.std.specs.Borrow.{MutBor}
 use Rattle.market.specs.declared.refusal.Refusal.{Refusal}
 use Rattle.market.specs.Refusal.{number_of}
@@ -40,6 +40,18 @@ SameTable before after = (after.cells.ghost_name ≡ before.cells.ghost_name) ×
 -- every total is zero
 abbrev pub Cleared : {M : Type 0} → M → Totals M → Totals M → Type 0
 Cleared zero before after = SameTable before after × ((k : ℕ) → slice_index_or after.cells.now k zero ≡ zero)
+
+-- where the total of a period and place lies, if there is one
+abbrev pub Located : {M : Type 0} → Totals M → ℕ → ℕ → Option ℕ → Type 0
+Located t p q (Some i) = HasTotal t.periods t.places p q × (i ≡ cell_of t.places p q) × (i < length t.cells.now)
+Located t p q None = HasTotal t.periods t.places p q → ⊥
+
+-- one total is changed to something that is made of it, and no other; or there is none, which gets 3, and nothing is changed
+abbrev pub ChangedBy : {M : Type 0} → M → (M → M → Type 0) → Totals M → Totals M → ℕ → ℕ → Result (Unit {0}) Refusal → Type 0
+ChangedBy {M} zero makes before after p q (Ok done) =
+    HasTotal before.periods before.places p q × SameTable before after
+    × ((total : M) × makes (total_in zero before p q) total × (after.cells.now ≡ slice_set before.cells.now (cell_of before.places p q) total))
+ChangedBy zero makes before after p q (Err e) = (HasTotal before.periods before.places p q → ⊥) × (number_of e ≡ 3) × (after ≡ before)
 
 -- one total is changed and no other; or there is none, which gets 3, and nothing is changed
 abbrev pub Changed : {M : Type 0} → M → (M → M) → Totals M → Totals M → ℕ → ℕ → Result (Unit {0}) Refusal → Type 0

@@ -16,17 +16,12 @@ pub struct Entry {
 
 // The place that a report names for an entry, and the amount that goes there; none where the record is unlawful, nothing is used, there is
 // no factor, or the report names no place.
-#[tactic(auto, using(meters::proofs::Laws::lawful_true))]
 pub fn named<R: Report>(report: &R, entry: Entry) -> Option<(usize, R::Amount)>
     ensures { Named R.Amount.algebra (R.rules report.now) entry result }
 {
     let used = entry.used?;
     let factor = entry.factor?;
-    match Meter::new(entry.row) {
-        Ok(meter) => {
-            let place = report.place_of(meter, used)?;
-            Some((place, report.amount_of(meter, used, factor)))
-        }
-        Err(_) => None,
-    }
+    let meter = Meter::new(entry.row).ok()?;
+    let place = report.place_of(meter, used)?;
+    Some((place, report.amount_of(meter, used, factor)))
 }

@@ -1,6 +1,7 @@
 // Totals: what a report is, and the one table of its totals.
 #![tactic(auto)]
 
+pub mod account;
 pub mod entries;
 pub mod entry;
 pub mod exactness;

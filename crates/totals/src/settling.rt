@@ -1,8 +1,8 @@
 // Totals worked out from nothing.
-ghost use Rattle.totals.specs.Holds.{total_of};
-ghost use Rattle.totals.specs.Moves.{Shifted};
-ghost use Rattle.totals.specs.Settling.{Raised, Filled, Settled};
+ghost use Rattle.totals.specs.Account.{SameAccount};
+ghost use Rattle.totals.specs.Settling.{Added, Raised, Filled, Settled};
 
+use crate::account::Account;
 use crate::entries::Entries;
 use crate::moves::add_entry;
 use crate::report::Report;
@@ -16,8 +16,9 @@ fn add_period<E: Entries, R: Report>(
     meters: &E,
     period: u8,
 )
-    ensures { Shifted R.Amount.algebra period (λ q total. R.Amount.algebra.plus total (total_of R.Amount.algebra (R.rules report.now) (E.entries meters.now) (E.count meters.now) period q)) table.old table.new }
+    ensures { Added R.Amount.algebra (R.rules report.now) (E.entries meters.now) period (E.count meters.now) table.old table.new }
 {
+    // by number: the entries of meters are an interface, and no slice to go over
     for index in 0..meters.meter_count() {
         add_entry(table, report, period, meters.entry_at(index, period));
     }
@@ -27,8 +28,8 @@ fn add_period<E: Entries, R: Report>(
 fn add_periods<E: Entries, R: Report>(table: &mut Totals<'_, R::Amount>, report: &R, meters: &E)
     ensures { Raised R.Amount.algebra (R.rules report.now) (E.entries meters.now) (E.count meters.now) table.old table.new }
 {
-    for index in 0..table.periods() {
-        add_period(table, report, meters, index + 1);
+    for period in 1..=table.periods() {
+        add_period(table, report, meters, period);
     }
 }
 
@@ -40,24 +41,21 @@ pub fn fill_table<E: Entries, R: Report>(table: &mut Totals<'_, R::Amount>, repo
     add_periods(table, report, meters);
 }
 
-// Works every total out from nothing, in amounts of which there is one for each period and place; else they get 1.
-pub fn settle_totals<E: Entries, R: Report>(
-    cells: &mut [R::Amount],
-    periods: u8,
-    report: &R,
-    meters: &E,
-) -> Result<(), Refusal>
-    ensures { Settled R.Amount.algebra (R.rules report.now) (E.entries meters.now) (E.count meters.now) periods cells.old cells.new result }
-{
-    let places = report.place_count();
-    if cells.len() != periods as usize * places {
-        return Err(Refusal::Sizes);
+impl<'a, R: Report> Account<'a, R, R::Amount> {
+    // Works every total out from nothing, if there is one amount for each period and place; else it gets 1.
+    pub fn settle<E: Entries>(&mut self, periods: u8, meters: &E) -> Result<(), Refusal>
+        ensures settled { Settled R.Amount.algebra (R.rules self.old.report.now) (E.entries meters.now) (E.count meters.now) periods self.old.totals.now self.new.totals.now result }
+        ensures same { SameAccount self.old self.new }
+    {
+        if !self.fits(periods) {
+            return Err(Refusal::Sizes);
+        }
+        let mut table = Totals {
+            places: self.report.place_count(),
+            cells: self.totals,
+            periods,
+        };
+        fill_table(&mut table, self.report, meters);
+        Ok(())
     }
-    let mut table = Totals {
-        cells,
-        periods,
-        places,
-    };
-    fill_table(&mut table, report, meters);
-    Ok(())
 }

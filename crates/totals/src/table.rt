@@ -1,6 +1,6 @@
 // Making, reading and changing tables of totals.
-ghost use Rattle.std.specs.Prelude.{◌≡◌, ◌<◌, length, MatchOption};
-ghost use Rattle.totals.specs.Table.{HasTotal, cell_of, Made, Read, Cleared, Changed};
+ghost use Rattle.std.specs.Prelude.{◌≡◌};
+ghost use Rattle.totals.specs.Table.{Made, Located, Read, Cleared, ChangedBy, Changed};
 
 use crate::totals::{NoTable, Totals};
 use amounts::amount::Amount;
@@ -49,9 +49,9 @@ impl<'a, M: Amount> Totals<'a, M> {
 
     // Where a total lies, if there is such a period and place.
     fn index(&self, period: u8, place: usize) -> Option<usize>
-        ensures { MatchOption result (HasTotal self.now.periods self.now.places period place → ⊥) (λ i. HasTotal self.now.periods self.now.places period place × (i ≡ cell_of self.now.places period place) × (i < length self.now.cells.now)) }
+        ensures { Located self.now period place result }
     {
-        if period >= 1 && period <= self.periods && place < self.places {
+        if (1..=self.periods).contains(&period) && place < self.places {
             Some((period as usize - 1) * self.places + place)
         } else {
             None
@@ -62,47 +62,46 @@ impl<'a, M: Amount> Totals<'a, M> {
     pub fn read(&self, period: u8, place: usize) -> Result<M, Refusal>
         ensures { Read M.algebra.zero self.now period place result }
     {
-        match self.index(period, place) {
-            Some(index) => {
-                let cells = &*self.cells;
-                Ok(cells[index])
-            }
-            None => Err(Refusal::NoSuch),
-        }
+        let index = self.index(period, place).ok_or(Refusal::NoSuch)?;
+        Ok(self.cells[index])
     }
 
     // Makes every total zero.
     pub fn clear(&mut self)
         ensures { Cleared M.algebra.zero self.old self.new }
     {
-        for i in 0..self.cells.len() {
-            self.cells[i] = M::nothing();
+        // not `fill`, which asks that a copy cannot fail: a kind of amount does not promise that
+        for total in self.cells.iter_mut() {
+            *total = M::nothing();
         }
+    }
+
+    // Puts in the place of a total what is made of it.
+    pub(crate) fn change<F: FnOnce(M) -> M>(
+        &mut self,
+        period: u8,
+        place: usize,
+        make: F,
+    ) -> Result<(), Refusal>
+        requires { F.IsAlwaysCallable make }
+        ensures { ChangedBy M.algebra.zero (F.post make) self.old self.new period place result }
+    {
+        let index = self.index(period, place).ok_or(Refusal::NoSuch)?;
+        self.cells[index] = make(self.cells[index]);
+        Ok(())
     }
 
     // Adds an amount to the total of a period and place.
     pub fn add(&mut self, period: u8, place: usize, amount: M) -> Result<(), Refusal>
         ensures { Changed M.algebra.zero (λ total. M.algebra.plus total amount) self.old self.new period place result }
     {
-        match self.index(period, place) {
-            Some(index) => {
-                self.cells[index] = self.cells[index].add(amount);
-                Ok(())
-            }
-            None => Err(Refusal::NoSuch),
-        }
+        self.change(period, place, |total| total.add(amount))
     }
 
     // Takes an amount away from the total of a period and place.
     pub fn take_away(&mut self, period: u8, place: usize, amount: M) -> Result<(), Refusal>
         ensures { Changed M.algebra.zero (λ total. M.algebra.minus total amount) self.old self.new period place result }
     {
-        match self.index(period, place) {
-            Some(index) => {
-                self.cells[index] = self.cells[index].take_away(amount);
-                Ok(())
-            }
-            None => Err(Refusal::NoSuch),
-        }
+        self.change(period, place, |total| total.take_away(amount))
     }
 }

@@ -1,306 +1,94 @@
 // Dates: which exist, and of which kind they are.
-use market::clock::{ClockPlace, DayKind, SettlementPeriod, convert};
+use market::clock::{ClockPlace, SettlementPeriod, UtcDate, UtcPeriod, convert};
 use market::date::Date;
+use market::refusal::Refusal;
 use std::test::Fail;
 
-// A date as three numbers, and what is to come of it: its number of periods and the UTC period of its first one, or its refusal.
-struct Case {
-    year: u16,
-    month: u8,
-    day: u8,
-    want: Result<(u8, u8), u8>,
-}
+// What comes of a date: its number of periods and the UTC place of its first one, or the number of its refusal.
+type Outcome = Result<(u8, Option<ClockPlace>), u8>;
 
 // The outcomes: the four kinds of day, and the refusal.
-const WINTER: Result<(u8, u8), u8> = Ok((48, 1));
+const WINTER: Outcome = Ok((48, Some(ClockPlace::Utc(UtcDate::TheDate, UtcPeriod(1)))));
 
-const SUMMER: Result<(u8, u8), u8> = Ok((48, 47));
+const SUMMER: Outcome = Ok((
+    48,
+    Some(ClockPlace::Utc(UtcDate::DateBefore, UtcPeriod(47))),
+));
 
-const SPRING: Result<(u8, u8), u8> = Ok((46, 1));
+const SPRING: Outcome = Ok((46, Some(ClockPlace::Utc(UtcDate::TheDate, UtcPeriod(1)))));
 
-const AUTUMN: Result<(u8, u8), u8> = Ok((50, 47));
+const AUTUMN: Outcome = Ok((
+    50,
+    Some(ClockPlace::Utc(UtcDate::DateBefore, UtcPeriod(47))),
+));
 
-const NO_DATE: Result<(u8, u8), u8> = Err(14);
+const NO_DATE: Outcome = Err(14);
 
-const CASES: [Case; 42] = [
+// A date as three numbers, and what is to come of it.
+const CASES: [(u16, u8, u8, Outcome); 42] = [
     // before the first year
-    Case {
-        year: 2023,
-        month: 12,
-        day: 31,
-        want: NO_DATE,
-    },
+    (2023, 12, 31, NO_DATE),
     // the first and the last day
-    Case {
-        year: 2024,
-        month: 1,
-        day: 1,
-        want: WINTER,
-    },
-    Case {
-        year: 2055,
-        month: 12,
-        day: 31,
-        want: WINTER,
-    },
+    (2024, 1, 1, WINTER),
+    (2055, 12, 31, WINTER),
     // after the last year
-    Case {
-        year: 2056,
-        month: 1,
-        day: 1,
-        want: NO_DATE,
-    },
+    (2056, 1, 1, NO_DATE),
     // far outside
-    Case {
-        year: 0,
-        month: 1,
-        day: 1,
-        want: NO_DATE,
-    },
-    Case {
-        year: 65535,
-        month: 12,
-        day: 31,
-        want: NO_DATE,
-    },
-    Case {
-        year: 2025,
-        month: 255,
-        day: 255,
-        want: NO_DATE,
-    },
+    (0, 1, 1, NO_DATE),
+    (65535, 12, 31, NO_DATE),
+    (2025, 255, 255, NO_DATE),
     // leap days
-    Case {
-        year: 2024,
-        month: 2,
-        day: 29,
-        want: WINTER,
-    },
-    Case {
-        year: 2024,
-        month: 2,
-        day: 30,
-        want: NO_DATE,
-    },
-    Case {
-        year: 2025,
-        month: 2,
-        day: 28,
-        want: WINTER,
-    },
-    Case {
-        year: 2025,
-        month: 2,
-        day: 29,
-        want: NO_DATE,
-    },
-    Case {
-        year: 2048,
-        month: 2,
-        day: 29,
-        want: WINTER,
-    },
-    Case {
-        year: 2050,
-        month: 2,
-        day: 29,
-        want: NO_DATE,
-    },
+    (2024, 2, 29, WINTER),
+    (2024, 2, 30, NO_DATE),
+    (2025, 2, 28, WINTER),
+    (2025, 2, 29, NO_DATE),
+    (2048, 2, 29, WINTER),
+    (2050, 2, 29, NO_DATE),
     // no such month or day
-    Case {
-        year: 2025,
-        month: 0,
-        day: 15,
-        want: NO_DATE,
-    },
-    Case {
-        year: 2025,
-        month: 13,
-        day: 1,
-        want: NO_DATE,
-    },
-    Case {
-        year: 2025,
-        month: 1,
-        day: 0,
-        want: NO_DATE,
-    },
-    Case {
-        year: 2025,
-        month: 1,
-        day: 32,
-        want: NO_DATE,
-    },
-    Case {
-        year: 2025,
-        month: 4,
-        day: 31,
-        want: NO_DATE,
-    },
-    Case {
-        year: 2025,
-        month: 6,
-        day: 31,
-        want: NO_DATE,
-    },
-    Case {
-        year: 2025,
-        month: 9,
-        day: 31,
-        want: NO_DATE,
-    },
-    Case {
-        year: 2025,
-        month: 11,
-        day: 31,
-        want: NO_DATE,
-    },
+    (2025, 0, 15, NO_DATE),
+    (2025, 13, 1, NO_DATE),
+    (2025, 1, 0, NO_DATE),
+    (2025, 1, 32, NO_DATE),
+    (2025, 4, 31, NO_DATE),
+    (2025, 6, 31, NO_DATE),
+    (2025, 9, 31, NO_DATE),
+    (2025, 11, 31, NO_DATE),
     // around the change days of 2024, 2025, 2029 and 2055
-    Case {
-        year: 2024,
-        month: 3,
-        day: 30,
-        want: WINTER,
-    },
-    Case {
-        year: 2024,
-        month: 3,
-        day: 31,
-        want: SPRING,
-    },
-    Case {
-        year: 2024,
-        month: 4,
-        day: 1,
-        want: SUMMER,
-    },
-    Case {
-        year: 2024,
-        month: 10,
-        day: 26,
-        want: SUMMER,
-    },
-    Case {
-        year: 2024,
-        month: 10,
-        day: 27,
-        want: AUTUMN,
-    },
-    Case {
-        year: 2024,
-        month: 10,
-        day: 28,
-        want: WINTER,
-    },
-    Case {
-        year: 2025,
-        month: 3,
-        day: 29,
-        want: WINTER,
-    },
-    Case {
-        year: 2025,
-        month: 3,
-        day: 30,
-        want: SPRING,
-    },
-    Case {
-        year: 2025,
-        month: 3,
-        day: 31,
-        want: SUMMER,
-    },
-    Case {
-        year: 2025,
-        month: 10,
-        day: 25,
-        want: SUMMER,
-    },
-    Case {
-        year: 2025,
-        month: 10,
-        day: 26,
-        want: AUTUMN,
-    },
-    Case {
-        year: 2025,
-        month: 10,
-        day: 27,
-        want: WINTER,
-    },
-    Case {
-        year: 2029,
-        month: 3,
-        day: 24,
-        want: WINTER,
-    },
-    Case {
-        year: 2029,
-        month: 3,
-        day: 25,
-        want: SPRING,
-    },
-    Case {
-        year: 2029,
-        month: 3,
-        day: 26,
-        want: SUMMER,
-    },
-    Case {
-        year: 2055,
-        month: 10,
-        day: 30,
-        want: SUMMER,
-    },
-    Case {
-        year: 2055,
-        month: 10,
-        day: 31,
-        want: AUTUMN,
-    },
-    Case {
-        year: 2055,
-        month: 11,
-        day: 1,
-        want: WINTER,
-    },
+    (2024, 3, 30, WINTER),
+    (2024, 3, 31, SPRING),
+    (2024, 4, 1, SUMMER),
+    (2024, 10, 26, SUMMER),
+    (2024, 10, 27, AUTUMN),
+    (2024, 10, 28, WINTER),
+    (2025, 3, 29, WINTER),
+    (2025, 3, 30, SPRING),
+    (2025, 3, 31, SUMMER),
+    (2025, 10, 25, SUMMER),
+    (2025, 10, 26, AUTUMN),
+    (2025, 10, 27, WINTER),
+    (2029, 3, 24, WINTER),
+    (2029, 3, 25, SPRING),
+    (2029, 3, 26, SUMMER),
+    (2055, 10, 30, SUMMER),
+    (2055, 10, 31, AUTUMN),
+    (2055, 11, 1, WINTER),
     // in the middle of the seasons
-    Case {
-        year: 2025,
-        month: 1,
-        day: 15,
-        want: WINTER,
-    },
-    Case {
-        year: 2025,
-        month: 7,
-        day: 15,
-        want: SUMMER,
-    },
-    Case {
-        year: 2025,
-        month: 12,
-        day: 15,
-        want: WINTER,
-    },
+    (2025, 1, 15, WINTER),
+    (2025, 7, 15, SUMMER),
+    (2025, 12, 15, WINTER),
 ];
 
-// The UTC period of a day's first Settlement Period.
-fn first(kind: DayKind) -> u8 {
-    match convert(kind, ClockPlace::Settlement(SettlementPeriod(1))) {
-        Ok(Some(ClockPlace::Utc(_, period))) => period.0,
-        _ => 0,
-    }
+// What comes of a date: the number of its periods, and where the first one lies by the UTC clock; or the refusal.
+fn outcome(year: u16, month: u8, day: u8) -> Result<(u8, Option<ClockPlace>), Refusal> {
+    let kind = Date::new(year, month, day)?.kind();
+    let first = convert(kind, ClockPlace::Settlement(SettlementPeriod(1)))?;
+    Ok((kind.periods(), first))
 }
 
 #[test]
 fn dates_and_kinds(rt: HostRuntime) {
-    for case in &CASES {
-        let got = match Date::new(case.year, case.month, case.day) {
-            Ok(date) => Ok((date.kind().periods(), first(date.kind()))),
-            Err(refusal) => Err(refusal.number()),
-        };
-        assert_eq!(rt; got, case.want);
+    for (year, month, day, want) in CASES {
+        assert_eq!(rt; outcome(year, month, day).map_err(Refusal::number), want);
     }
 }
 
@@ -318,11 +106,7 @@ fn dates_before(rt: HostRuntime) -> Result<(), Fail> {
         let before = Date::new(year, month, day)?.before()?;
         assert_eq!(rt; (before.year(), before.month(), before.day()), want);
     }
-    match Date::new(2024, 1, 1)?.before() {
-        Ok(_) => Err(Fail::new("no date comes before the first")),
-        Err(refusal) => {
-            assert_eq!(rt; refusal.number(), 14);
-            Ok(())
-        },
-    }
+    let first = Date::new(2024, 1, 1)?;
+    assert_eq!(rt; first.before().map_err(Refusal::number), Err(14));
+    Ok(())
 }

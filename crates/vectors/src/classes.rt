@@ -1,8 +1,14 @@
 // The table of consumption component classes as it was published, against the code.
 use meters::class::{class_for_losses, consumption_class};
 use meters::row::{Connection, Quantity, Segment};
-use qualities::quality::Quality;
-use std::test::Fail;
+use qualities::quality::{QUALITIES, Quality};
+
+// What a class counts: consumption, or the losses of it.
+#[derive(Clone, Copy, PartialEq, Eq)]
+enum Counted {
+    Consumption,
+    Losses,
+}
 
 // The letters of the published table.
 const U: Segment = Segment::Unmetered;
@@ -23,12 +29,12 @@ const H: Connection = Connection::HighVoltage;
 
 const E: Connection = Connection::ExtraHighVoltage;
 
-const CONSUMPTION: bool = false;
+const CONSUMPTION: Counted = Counted::Consumption;
 
-const LOSSES: bool = true;
+const LOSSES: Counted = Counted::Losses;
 
 // A row: the class, the segment, the quantity, what is counted, the connection and the qualities.
-struct Row(u8, Segment, Quantity, bool, Connection, &'static str);
+struct Row(u8, Segment, Quantity, Counted, Connection, &'static str);
 
 const TABLE: [Row; 83] = [
     Row(100, U, I, CONSUMPTION, W, "A"),
@@ -118,59 +124,43 @@ const TABLE: [Row; 83] = [
 
 // Whether a row lists a quality.
 fn lists(row: &Row, quality: Quality) -> bool {
-    for name in row.5.split_whitespace() {
-        if name == quality.text() {
-            return true;
-        }
-    }
-    false
+    row.5.split_whitespace().any(|name| name == quality.text())
 }
 
 // The class of the row that lists these indicators, or none.
 fn listed(
     segment: Segment,
     quantity: Quantity,
-    losses: bool,
+    counted: Counted,
     connection: Connection,
     quality: Quality,
 ) -> Option<u8> {
-    for row in &TABLE {
-        let same = row.1 as u8 == segment as u8
-            && row.2 as u8 == quantity as u8
-            && row.3 == losses
-            && row.4 as u8 == connection as u8;
-        if same && lists(row, quality) {
-            return Some(row.0);
-        }
-    }
-    None
+    let key = (segment, quantity, counted, connection);
+    TABLE
+        .iter()
+        .find(|row| (row.1, row.2, row.3, row.4) == key && lists(row, quality))
+        .map(|row| row.0)
 }
 
 // Every segment, quantity, connection and quality has the class of the row that lists them, and as its class for losses that of the
 // row for losses that lists them; where no row does, it has none.
 #[test]
-fn published_classes(rt: HostRuntime) -> Result<(), Fail> {
+fn published_classes(rt: HostRuntime) {
     for segment in [U, S, A] {
         for quantity in [I, X] {
             for connection in [W, L, H, E] {
-                for number in 0..35u8 {
-                    let quality = Quality::from_number(number).ok_or("no quality")?;
+                for quality in QUALITIES {
                     let class = consumption_class(segment, quantity, connection, quality);
                     assert_eq!(rt;
                         class,
                         listed(segment, quantity, CONSUMPTION, connection, quality)
                     );
-                    let for_losses = match class {
-                        Some(class) => class_for_losses(class),
-                        None => None,
-                    };
                     assert_eq!(rt;
-                        for_losses,
+                        class.and_then(class_for_losses),
                         listed(segment, quantity, LOSSES, connection, quality)
                     );
                 }
             }
         }
     }
-    Ok(())
 }

@@ -1,49 +1,34 @@
 // The two clocks: the edges of each kind of day.
 use market::clock::{ClockPlace, DayKind, SettlementPeriod, UtcDate, UtcPeriod, convert};
 use market::clock_time::ends_at;
-
-// The UTC place of a Settlement Period: whether it lies on the date before, and its number; or a refusal.
-fn utc_place(kind: DayKind, number: u8) -> Result<(bool, u8), u8> {
-    match convert(kind, ClockPlace::Settlement(SettlementPeriod(number))) {
-        Ok(Some(ClockPlace::Utc(UtcDate::DateBefore, period))) => Ok((true, period.0)),
-        Ok(Some(ClockPlace::Utc(UtcDate::TheDate, period))) => Ok((false, period.0)),
-        Ok(_) => Err(0),
-        Err(refusal) => Err(refusal.number()),
-    }
-}
+use market::refusal::Refusal;
 
 // The number of a Settlement Period, and the UTC period that it is.
 #[test]
 fn settlement_periods(rt: HostRuntime) {
     let cases = [
         (DayKind::Winter, 0, Err(3)),
-        (DayKind::Winter, 1, Ok((false, 1))),
-        (DayKind::Winter, 48, Ok((false, 48))),
+        (DayKind::Winter, 1, Ok((UtcDate::TheDate, 1))),
+        (DayKind::Winter, 48, Ok((UtcDate::TheDate, 48))),
         (DayKind::Winter, 49, Err(3)),
         (DayKind::Summer, 0, Err(3)),
-        (DayKind::Summer, 2, Ok((true, 48))),
-        (DayKind::Summer, 3, Ok((false, 1))),
-        (DayKind::Summer, 48, Ok((false, 46))),
+        (DayKind::Summer, 2, Ok((UtcDate::DateBefore, 48))),
+        (DayKind::Summer, 3, Ok((UtcDate::TheDate, 1))),
+        (DayKind::Summer, 48, Ok((UtcDate::TheDate, 46))),
         (DayKind::Summer, 49, Err(3)),
-        (DayKind::SpringChange, 46, Ok((false, 46))),
+        (DayKind::SpringChange, 46, Ok((UtcDate::TheDate, 46))),
         (DayKind::SpringChange, 47, Err(3)),
-        (DayKind::AutumnChange, 1, Ok((true, 47))),
-        (DayKind::AutumnChange, 50, Ok((false, 48))),
+        (DayKind::AutumnChange, 1, Ok((UtcDate::DateBefore, 47))),
+        (DayKind::AutumnChange, 50, Ok((UtcDate::TheDate, 48))),
         (DayKind::AutumnChange, 51, Err(3)),
         (DayKind::AutumnChange, 255, Err(3)),
     ];
     for (kind, number, want) in cases {
-        assert_eq!(rt; utc_place(kind, number), want);
-    }
-}
-
-// The Settlement Period of a UTC period, none where it lies outside the day, or a refusal.
-fn settlement(kind: DayKind, date: UtcDate, number: u8) -> Result<Option<u8>, u8> {
-    match convert(kind, ClockPlace::Utc(date, UtcPeriod(number))) {
-        Ok(Some(ClockPlace::Settlement(period))) => Ok(Some(period.0)),
-        Ok(Some(ClockPlace::Utc(_, _))) => Err(0),
-        Ok(None) => Ok(None),
-        Err(refusal) => Err(refusal.number()),
+        let place = ClockPlace::Settlement(SettlementPeriod(number));
+        assert_eq!(rt;
+            convert(kind, place).map_err(Refusal::number),
+            want.map(|(date, utc)| Some(ClockPlace::Utc(date, UtcPeriod(utc))))
+        );
     }
 }
 
@@ -67,7 +52,11 @@ fn utc_periods(rt: HostRuntime) {
         (DayKind::AutumnChange, UtcDate::TheDate, 48, Ok(Some(50))),
     ];
     for (kind, date, number, want) in cases {
-        assert_eq!(rt; settlement(kind, date, number), want);
+        let place = ClockPlace::Utc(date, UtcPeriod(number));
+        assert_eq!(rt;
+            convert(kind, place).map_err(Refusal::number),
+            want.map(|period| period.map(|number| ClockPlace::Settlement(SettlementPeriod(number))))
+        );
     }
 }
 
@@ -89,10 +78,7 @@ fn clock_times(rt: HostRuntime) {
         (DayKind::AutumnChange, 50, Ok((0, 0))),
     ];
     for (kind, number, want) in cases {
-        let got = match ends_at(kind, SettlementPeriod(number)) {
-            Ok(time) => Ok((time.hour, time.minute)),
-            Err(refusal) => Err(refusal.number()),
-        };
-        assert_eq!(rt; got, want);
+        let ends = ends_at(kind, SettlementPeriod(number)).map_err(Refusal::number);
+        assert_eq!(rt; ends.map(|time| (time.hour, time.minute)), want);
     }
 }

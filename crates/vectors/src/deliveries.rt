@@ -1,54 +1,47 @@
 // Readings at their limits, and which of two stands.
-use qualities::quality::Quality;
+use market::refusal::Refusal;
+use qualities::quality::{Quality, UnknownName};
 use readings::delivery::Delivery;
 use std::test::Fail;
-
-// What comes of a delivery: 0 where it is accepted, or the number of its refusal.
-fn outcome(stamp: u64, volume: u64, quality: u8, limit: u64) -> u8 {
-    match (Delivery {
-        stamp,
-        volume,
-        quality,
-    })
-    .accept(limit)
-    {
-        Ok(_) => 0,
-        Err(refusal) => refusal.number(),
-    }
-}
 
 // Stamp, volume, quality number and volume limit of a delivery, and what comes of it.
 #[test]
 fn limits(rt: HostRuntime) {
     let cases = [
         // stamps
-        (0, 5, 0, 1_000_000_000, 9),
-        (1, 5, 0, 1_000_000_000, 0),
-        (4_294_967_295, 5, 0, 1_000_000_000, 0),
-        (4_294_967_296, 5, 0, 1_000_000_000, 9),
-        (u64::MAX, 5, 0, 1_000_000_000, 9),
+        (0, 5, 0, 1_000_000_000, Err(9)),
+        (1, 5, 0, 1_000_000_000, Ok(())),
+        (4_294_967_295, 5, 0, 1_000_000_000, Ok(())),
+        (4_294_967_296, 5, 0, 1_000_000_000, Err(9)),
+        (u64::MAX, 5, 0, 1_000_000_000, Err(9)),
         // qualities
-        (1, 0, 34, 1_000_000_000, 0),
-        (1, 0, 35, 1_000_000_000, 9),
-        (1, 0, 255, 1_000_000_000, 9),
+        (1, 0, 34, 1_000_000_000, Ok(())),
+        (1, 0, 35, 1_000_000_000, Err(9)),
+        (1, 0, 255, 1_000_000_000, Err(9)),
         // volumes with the zero qualities, and beside them
-        (1, 1, 30, 1_000_000_000, 0),
-        (1, 1, 31, 1_000_000_000, 10),
-        (1, 1, 34, 1_000_000_000, 10),
+        (1, 1, 30, 1_000_000_000, Ok(())),
+        (1, 1, 31, 1_000_000_000, Err(10)),
+        (1, 1, 34, 1_000_000_000, Err(10)),
         // volumes at the limit
-        (1, 1000, 0, 1000, 0),
-        (1, 1001, 0, 1000, 11),
-        (1, 1_000_000_000, 0, 1_000_000_000, 0),
-        (1, 1_000_000_001, 0, 1_000_000_000, 11),
-        (1, 1_000_000_001, 0, u64::MAX, 11),
-        (1, 0, 0, 0, 0),
-        (1, u64::MAX, 0, 0, 11),
+        (1, 1000, 0, 1000, Ok(())),
+        (1, 1001, 0, 1000, Err(11)),
+        (1, 1_000_000_000, 0, 1_000_000_000, Ok(())),
+        (1, 1_000_000_001, 0, 1_000_000_000, Err(11)),
+        (1, 1_000_000_001, 0, u64::MAX, Err(11)),
+        (1, 0, 0, 0, Ok(())),
+        (1, u64::MAX, 0, 0, Err(11)),
         // the first fault answers
-        (0, 7, 31, 5, 9),
-        (1, 7, 31, 5, 10),
+        (0, 7, 31, 5, Err(9)),
+        (1, 7, 31, 5, Err(10)),
     ];
     for (stamp, volume, quality, limit, want) in cases {
-        assert_eq!(rt; outcome(stamp, volume, quality, limit), want);
+        let delivery = Delivery {
+            stamp,
+            volume,
+            quality,
+        };
+        let outcome = delivery.accept(limit).map(|_| ());
+        assert_eq!(rt; outcome.map_err(Refusal::number), want);
     }
 }
 
@@ -96,12 +89,12 @@ fn quality_names(rt: HostRuntime) -> Result<(), Fail> {
         ("ZE", 31),
         ("ZE3", 34),
     ] {
-        let quality = Quality::from_text(name).ok_or("a quality")?;
+        let quality = name.parse::<Quality>()?;
         assert_eq!(rt; quality.number(), number);
         assert_eq!(rt; quality.text(), name);
     }
     for name in ["", " A", "a", "A4", "E9", "EA0", "EA13", "ZE4", "AA"] {
-        assert!(rt; Quality::from_text(name).is_none());
+        assert_eq!(rt; name.parse::<Quality>(), Err(UnknownName));
     }
     Ok(())
 }

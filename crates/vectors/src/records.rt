@@ -1,4 +1,5 @@
 // Meter records at their limits, deliveries at a meter, and used readings.
+use market::refusal::Refusal;
 use meters::meter::Meter;
 use meters::row::{Connection, MeterRow, Quantity, Segment, Status};
 use qualities::quality::Quality;
@@ -19,25 +20,22 @@ const SMART: MeterRow = MeterRow {
     supplier: 1,
 };
 
-// What comes of a record: 0 where it is lawful, or the number of its refusal.
-fn outcome(row: MeterRow) -> u8 {
-    match Meter::new(row) {
-        Ok(_) => 0,
-        Err(refusal) => refusal.number(),
-    }
+// What comes of a record: nothing where it is lawful, or the number of its refusal.
+fn outcome(row: MeterRow) -> Result<(), u8> {
+    Meter::new(row).map(|_| ()).map_err(Refusal::number)
 }
 
 #[test]
 fn numbers(rt: HostRuntime) {
     for (mpan, want) in [
-        (0, 4),
-        (1, 0),
-        (9_999_999_999_999, 0),
-        (10_000_000_000_000, 4),
+        (0, Err(4)),
+        (1, Ok(())),
+        (9_999_999_999_999, Ok(())),
+        (10_000_000_000_000, Err(4)),
     ] {
         assert_eq!(rt; outcome(MeterRow { mpan, ..SMART }), want);
     }
-    for (shape_class, want) in [(0, 4), (1, 0), (32, 0), (33, 4)] {
+    for (shape_class, want) in [(0, Err(4)), (1, Ok(())), (32, Ok(())), (33, Err(4))] {
         assert_eq!(rt;
             outcome(MeterRow {
                 shape_class,
@@ -46,7 +44,7 @@ fn numbers(rt: HostRuntime) {
             want
         );
     }
-    for (loss_class, want) in [(0, 4), (1, 0), (40, 0), (41, 4)] {
+    for (loss_class, want) in [(0, Err(4)), (1, Ok(())), (40, Ok(())), (41, Err(4))] {
         assert_eq!(rt;
             outcome(MeterRow {
                 loss_class,
@@ -55,10 +53,10 @@ fn numbers(rt: HostRuntime) {
             want
         );
     }
-    for (base_unit, want) in [(0, 4), (1, 0), (16, 0), (17, 4)] {
+    for (base_unit, want) in [(0, Err(4)), (1, Ok(())), (16, Ok(())), (17, Err(4))] {
         assert_eq!(rt; outcome(MeterRow { base_unit, ..SMART }), want);
     }
-    for (supplier, want) in [(0, 4), (1, 0), (8, 0), (9, 4)] {
+    for (supplier, want) in [(0, Err(4)), (1, Ok(())), (8, Ok(())), (9, Err(4))] {
         assert_eq!(rt; outcome(MeterRow { supplier, ..SMART }), want);
     }
 }
@@ -66,11 +64,11 @@ fn numbers(rt: HostRuntime) {
 #[test]
 fn options_and_connections(rt: HostRuntime) {
     for (additional_unit, want) in [
-        (None, 0),
-        (Some(0), 4),
-        (Some(1), 0),
-        (Some(16), 0),
-        (Some(17), 4),
+        (None, Ok(())),
+        (Some(0), Err(4)),
+        (Some(1), Ok(())),
+        (Some(16), Ok(())),
+        (Some(17), Err(4)),
     ] {
         assert_eq!(rt;
             outcome(MeterRow {
@@ -81,11 +79,11 @@ fn options_and_connections(rt: HostRuntime) {
         );
     }
     for (tariff, want) in [
-        (None, 0),
-        (Some(0), 4),
-        (Some(1), 0),
-        (Some(32), 0),
-        (Some(33), 4),
+        (None, Ok(())),
+        (Some(0), Err(4)),
+        (Some(1), Ok(())),
+        (Some(32), Ok(())),
+        (Some(33), Err(4)),
     ] {
         assert_eq!(rt; outcome(MeterRow { tariff, ..SMART }), want);
     }
@@ -99,7 +97,7 @@ fn options_and_connections(rt: HostRuntime) {
                 connection,
                 ..SMART
             }),
-            4
+            Err(4)
         );
         assert_eq!(rt;
             outcome(MeterRow {
@@ -107,7 +105,7 @@ fn options_and_connections(rt: HostRuntime) {
                 segment: Segment::Unmetered,
                 ..SMART
             }),
-            4
+            Err(4)
         );
         assert_eq!(rt;
             outcome(MeterRow {
@@ -115,7 +113,7 @@ fn options_and_connections(rt: HostRuntime) {
                 segment: Segment::Advanced,
                 ..SMART
             }),
-            0
+            Ok(())
         );
     }
 }
@@ -124,21 +122,18 @@ fn options_and_connections(rt: HostRuntime) {
 #[test]
 fn admission(rt: HostRuntime) -> Result<(), Fail> {
     let cases = [
-        (Status::Energised, Quality::E1, 112),
-        (Status::Energised, Quality::EA1, 13),
-        (Status::Deenergised, Quality::A, 108),
-        (Status::Deenergised, Quality::E1, 12),
-        (Status::Deenergised, Quality::E2, 112),
-        (Status::Deenergised, Quality::E6, 112),
-        (Status::Deenergised, Quality::AAE3, 13),
-        (Status::Deenergised, Quality::ZE2, 12),
+        (Status::Energised, Quality::E1, Ok(112)),
+        (Status::Energised, Quality::EA1, Err(13)),
+        (Status::Deenergised, Quality::A, Ok(108)),
+        (Status::Deenergised, Quality::E1, Err(12)),
+        (Status::Deenergised, Quality::E2, Ok(112)),
+        (Status::Deenergised, Quality::E6, Ok(112)),
+        (Status::Deenergised, Quality::AAE3, Err(13)),
+        (Status::Deenergised, Quality::ZE2, Err(12)),
     ];
     for (status, quality, want) in cases {
-        let got = match Meter::new(MeterRow { status, ..SMART })?.admit(quality) {
-            Ok(class) => class,
-            Err(refusal) => refusal.number(),
-        };
-        assert_eq!(rt; got, want);
+        let got = Meter::new(MeterRow { status, ..SMART })?.admit(quality);
+        assert_eq!(rt; got.map_err(Refusal::number), want);
     }
     Ok(())
 }

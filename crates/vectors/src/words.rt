@@ -4,9 +4,7 @@ use timetable::word::read_date;
 
 #[test]
 fn dates(rt: HostRuntime) -> Result<(), Fail> {
-    let Some(date) = read_date(b"2025-03-30") else {
-        return Err(Fail::new("2025-03-30 is a date"));
-    };
+    let date = read_date(b"2025-03-30").ok_or("2025-03-30 is a date")?;
     assert_eq!(rt; (date.year(), date.month(), date.day()), (2025, 3, 30));
     Ok(())
 }

@@ -1,24 +1,15 @@
 // Bytes as they were written elsewhere.
 use super::*;
 
-// What the first place of a store over these nine bytes shows: stamp, volume and quality number.
+// What these nine bytes show as the first place: stamp, volume and quality number.
 fn shown(nine: [u8; 9]) -> Option<(u64, u32, u8)> {
-    let mut memory = [0u8; BYTES_A_METER];
-    let bytes = &mut memory[0..BYTES_A_METER];
-    for (i, byte) in nine.iter().enumerate() {
-        if i < bytes.len() {
-            bytes[i] = *byte;
-        }
-    }
-    let store = PackedStore { bytes };
-    match store.show(1, UtcPeriod(1)) {
-        Some(reading) => Some((
+    Packed::show(&nine, 0).map(|reading| {
+        (
             reading.stamp(),
             reading.volume(),
             reading.quality().number(),
-        )),
-        None => None,
-    }
+        )
+    })
 }
 
 #[test]

@@ -1,10 +1,14 @@
-use Rattle.std.proofs.Common.{◌+◌}
+use Rattle.std.proofs.Common.{◌-◌, ◌≤◌}
+use Rattle.totals.specs.Account.{SameAccount}
 use Rattle.engine.proofs.Amends.{AmendFollowed, TwoBelow}
 use Rattle.engine.proofs.amending.amend_totals.Given as goal
 
-abbrev pub invariant-loop-i : goal.invariant-loop-i
-invariant-loop-i g l =
+abbrev pub invariant-loop-period : goal.invariant-loop-period
+invariant-loop-period g l =
     let m = g.R.Amount.Amount in
-    let rules = g.R.Report.rules l.report in
-    AmendFollowed m.laws rules l.periods (g.S.Store.grid l.store) l.factors l.shapes l.meter l.old l.new (l.i + 1) l.initial.cells l.cells
-    × TwoBelow m.algebra rules l.periods (l.i + 1) l.initial.cells l.cells
+    let rules = g.R.Report.rules l.initial.account.report.now in
+    let s = l.sources in
+    AmendFollowed m.laws rules l.periods (g.S.Store.grid s.store.now) s.factors.now s.shapes.now l.meter l.old l.new l.period l.initial.account.totals.now l.account.totals.now
+    × TwoBelow m.algebra rules l.periods l.period l.initial.account.totals.now l.account.totals.now
+    × SameAccount l.initial.account l.account
+    × (l.period - 1 ≤ l.periods)

@@ -1,37 +1,35 @@
 use Rattle.std.proofs.Common.{◌+◌, List, take, vec_items, sym, subst, arith, rules}
 use Rattle.std.proofs.lemmas.List.{length_push}
-use Rattle.settlement.specs.World.{World, setting, world}
-use Rattle.settlement.specs.Steps.{Answer}
+use Rattle.rules.specs.Asked.{asked}
+use Rattle.settlement.specs.World.{Setting, setting_of, world_of}
+use Rattle.settlement.specs.Steps.{Answer, Step}
 use Rattle.settlement.specs.Runs.{history_of}
-use Rattle.settlement.proofs.Histories.{RanFrom, ran_none, ran_more, ran_all}
+use Rattle.settlement.proofs.Lents.{lent_then, setting_same}
+use Rattle.settlement.proofs.Histories.{RanFrom, ran_none, ran_more}
 use Rattle.settlement.proofs.replay.run_all.Goals as goal
 
-pub loop-i-init : goal.loop-i-init
-loop-i-init g c =
-    let s = g.S.Store in
-    let t = setting s.meters s.periods s.grid s.fixed g.Q.Amount.Amount.algebra g.Q.Amount.Amount.figure (g.Q.Report.rules c.args.first.now) g.R.Amount.Amount.algebra g.R.Amount.Amount.figure (g.R.Report.rules c.args.second.now) in
-    (ran_none t _, search rules, search rules, search rules)
+pub loop-call-init : goal.loop-call-init
+loop-call-init g c =
+    (ran_none (setting_of g.S.Store g.Q.Report g.Q.Amount.Amount g.R.Report g.R.Amount.Amount c.args.first.now c.args.second.now) _, search rules, search rules, search rules, search rules)
 
-pub loop-i-preserved : goal.loop-i-preserved
-loop-i-preserved g c =
+pub loop-call-preserved : goal.loop-call-preserved
+loop-call-preserved g c =
     let s = g.S.Store in
-    let t = setting s.meters s.periods s.grid s.fixed g.Q.Amount.Amount.algebra g.Q.Amount.Amount.figure (g.Q.Report.rules c.args.first.now) g.R.Amount.Amount.algebra g.R.Amount.Amount.figure (g.R.Report.rules c.args.second.now) in
-    let from : World g.row.S.Denot g.row.Q-Amount.Denot g.row.R-Amount.Denot = world c.args.day.now c.args.store.now c.args.rows.now c.args.factors.now c.args.shapes.now c.args.first_totals.now c.args.second_totals.now in
-    let before : World g.row.S.Denot g.row.Q-Amount.Denot g.row.R-Amount.Denot = world c.loop-i.day c.loop-i.store c.loop-i.rows c.loop-i.factors c.loop-i.shapes c.loop-i.first_totals c.loop-i.second_totals in
-    let after : World g.row.S.Denot g.row.Q-Amount.Denot g.row.R-Amount.Denot = world c.perform-answer.new.day c.perform-answer.new.store c.perform-answer.new.rows c.perform-answer.new.factors c.perform-answer.new.shapes c.perform-answer.new.first_totals c.perform-answer.new.second_totals in (
-      subst (λ (items : List Answer). RanFrom t from (history_of g.S.Period.Period.number (take (c.loop-i.i + 1) c.args.calls.now) items) after) (sym c.push_reserved.ensures.items)
-          (ran_more t g.S.Period.Period.number from c.args.calls.now (vec_items c.loop-i.answers) c.loop-i.i c.index-calls-i.result c.perform-answer.result before after
-          (omega arith) c.loop-i.invariant.1 c.index-calls-i.is c.loop-i.invariant.0 c.perform-answer.ensures),
+    let number = g.S.Period.Period.number in
+    let x = world_of c.args.day.now c.args.inputs.now c.args.first.now c.args.second.now in
+    let y = world_of c.loop-call.day c.loop-call.inputs c.loop-call.first c.loop-call.second in
+    let made = c.perform-answer.new in
+    let z = world_of made.day made.inputs made.first made.second in
+    let t = setting_of s g.Q.Report g.Q.Amount.Amount g.R.Report g.R.Amount.Amount c.args.first.now c.args.second.now in
+    let same = c.loop-call.invariant.1 in
+    let step : Step t y (asked number c.call-item.result) c.perform-answer.result z =
+    subst (λ (u : Setting g.row.S.Denot g.row.Q-Amount.Denot g.row.R-Amount.Denot). Step u y (asked number c.call-item.result) c.perform-answer.result z)
+    (setting_same s g.Q.Report g.Q.Amount.Amount g.R.Report g.R.Amount.Amount c.args.inputs.now c.loop-call.inputs c.args.first.now c.loop-call.first c.args.second.now c.loop-call.second same) c.perform-answer.ensures.step in (
+      subst (λ (items : List Answer). RanFrom t x (history_of number (take (c.loop-call.call-index + 1) c.args.calls.now) items) z) (sym c.push_reserved.ensures.items)
+          (ran_more t number x c.args.calls.now (vec_items c.loop-call.answers) c.loop-call.call-index c.call-item.result c.perform-answer.result y z
+          (omega arith) c.loop-call.invariant.2 c.call-item.is c.loop-call.invariant.0 step),
+      lent_then c.args.inputs.now c.loop-call.inputs made.inputs c.args.first.now c.loop-call.first made.first c.args.second.now c.loop-call.second made.second same c.perform-answer.ensures.lent,
       search (rules, length_push),
       search rules,
       search rules,
     )
-
-pub returns : goal.returns
-returns g c =
-    let s = g.S.Store in
-    let t = setting s.meters s.periods s.grid s.fixed g.Q.Amount.Amount.algebra g.Q.Amount.Amount.figure (g.Q.Report.rules c.args.first.now) g.R.Amount.Amount.algebra g.R.Amount.Amount.figure (g.R.Report.rules c.args.second.now) in
-    record {
-      count = search rules;
-      run = ran_all t g.S.Period.Period.number _ c.args.calls.now (vec_items c.loop-i.answers) c.loop-i.i _ (omega arith) (record { first = c.vouch_totals.ensures; second = c.vouch_totals-2.ensures; meters = search rules }) c.loop-i.invariant.0;
-    }

@@ -1,17 +1,16 @@
 use Rattle.std.proofs.Common.{◌≡◌, ◌≤◌, length, take, vec_items, vec_len, vec_capacity}
-use Rattle.settlement.specs.World.{setting, world}
+use Rattle.settlement.specs.World.{setting_of, world_of, SameLent}
 use Rattle.settlement.specs.Runs.{history_of}
 use Rattle.settlement.proofs.Histories.{RanFrom}
 use Rattle.settlement.proofs.replay.run_all.Given as goal
 
-abbrev pub invariant-loop-i : goal.invariant-loop-i
-invariant-loop-i g l =
-    let s = g.S.Store in
-    let t = setting s.meters s.periods s.grid s.fixed g.Q.Amount.Amount.algebra g.Q.Amount.Amount.figure (g.Q.Report.rules l.first) g.R.Amount.Amount.algebra g.R.Amount.Amount.figure (g.R.Report.rules l.second) in
-    RanFrom t
-    (world l.initial.day l.initial.store l.initial.rows l.initial.factors l.initial.shapes l.initial.first_totals l.initial.second_totals)
-    (history_of g.S.Period.Period.number (take l.i l.calls) (vec_items l.answers))
-    (world l.day l.store l.rows l.factors l.shapes l.first_totals l.second_totals)
-    × (length (vec_items l.answers) ≡ l.i)
-    × (vec_len l.answers ≡ l.i)
+abbrev pub invariant-loop-call : goal.invariant-loop-call
+invariant-loop-call g l =
+    RanFrom (setting_of g.S.Store g.Q.Report g.Q.Amount.Amount g.R.Report g.R.Amount.Amount l.initial.first l.initial.second)
+    (world_of l.initial.day l.initial.inputs l.initial.first l.initial.second)
+    (history_of g.S.Period.Period.number (take l.call-index l.calls) (vec_items l.answers))
+    (world_of l.day l.inputs l.first l.second)
+    × SameLent l.initial.inputs l.initial.first l.initial.second l.inputs l.first l.second
+    × (length (vec_items l.answers) ≡ l.call-index)
+    × (vec_len l.answers ≡ l.call-index)
     × (length l.calls ≤ vec_capacity l.answers)

@@ -1,4 +1,4 @@
-use Rattle.totals.proofs.Fills.{Added}
+use Rattle.totals.specs.Settling.{Added}
 use Rattle.totals.proofs.settling.add_period.Given as goal
 
 abbrev pub invariant-loop-index : goal.invariant-loop-index

@@ -1,9 +1,7 @@
-use Rattle.std.proofs.Common.{◌≡◌, ℕ, ◌<◌, length, get_or}
-use Rattle.totals.specs.Table.{SameTable}
+use Rattle.std.proofs.Common.{◌≡◌, ℕ, ◌<◌, get_or}
 use Rattle.totals.proofs.totals.Totals.clear.Given as goal
 
-abbrev pub invariant-loop-i : goal.invariant-loop-i
-invariant-loop-i g l =
+abbrev pub invariant-loop-total : goal.invariant-loop-total
+invariant-loop-total g l =
     let m = g.M.Amount in
-    SameTable l.initial.self l.self × (length l.self.cells.now ≡ length l.initial.self.cells.now)
-    × ((k : ℕ) → k < l.i → get_or l.self.cells.now k m.algebra.zero ≡ m.algebra.zero)
+    (k : ℕ) → k < l.total-index → get_or l.total-items k m.algebra.zero ≡ m.algebra.zero

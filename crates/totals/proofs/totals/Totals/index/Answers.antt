@@ -1,12 +1,6 @@
 use Rattle.std.proofs.Common.{refl, arith, rules}
-use Rattle.totals.proofs.Cells.{cell_below, cell_small}
+use Rattle.totals.proofs.Cells.{cell_below}
 use Rattle.totals.proofs.totals.Totals.index.Goals as goal
-
-pub overflow_mul-result : goal.overflow_mul-result
-overflow_mul-result g c = search (rules, cell_small)
-
-pub overflow_add-result : goal.overflow_add-result
-overflow_add-result g c = search (rules, cell_small)
 
 pub returns-then-place-self : goal.returns-then-place-self
 returns-then-place-self g c =

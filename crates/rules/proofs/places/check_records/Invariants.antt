@@ -1,8 +1,0 @@
-use Rattle.market.specs.Lowest.{Lowest, turned_down}
-use Rattle.rules.specs.Joined.{Among}
-use Rattle.rules.specs.Places.{WholeFault}
-use Rattle.rules.specs.Tables.{row_of}
-use Rattle.rules.proofs.places.check_records.Given as goal
-
-abbrev pub invariant-loop-i : goal.invariant-loop-i
-invariant-loop-i g l = Lowest (Among l.i (λ m. WholeFault (g.S.Store.grid l.store) l.factors l.shapes l.periods (row_of l.rows m) m)) (turned_down l.found)
