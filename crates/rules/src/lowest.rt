@@ -34,6 +34,7 @@ pub(crate) fn lowest_of_periods<F: Fn(u8) -> Result<(), Refusal>>(
 }
 
 // The lowest refusal of a check over all records, each with the number of its meter.
+// Beside the walk over periods: one over any iterator would have to say what it yields, and be longer than both.
 pub(crate) fn lowest_of_rows<F: Fn(MeterRow, usize) -> Result<(), Refusal>>(
     rows: &[MeterRow],
     check: F,

@@ -9,7 +9,7 @@ pub struct Extent {
 }
 
 impl Extent {
-    // Whether there is one total for each of P periods and each place.
+    // Whether there is one total for each of P periods and each place: what an account asks of its own totals, here of numbers alone.
     pub(crate) fn fits(self, periods: u8) -> bool
         ensures { Decides result (self.totals ≡ periods * self.places) }
     {

@@ -25,6 +25,7 @@ impl<'a, S> Sources<'a, S> {
             .unwrap_or(NO_ROW)
     }
 
+    // Two methods, here and below: behind both is `entry_at`, and they differ in the table, its classes and the field of the record.
     // The line loss factor of a record's loss class in a period, if there is one.
     pub fn factor(&self, row: MeterRow, period: u8) -> Option<u16>
         ensures { result ≡ factor_of self.now.factors.now row.loss_class period }

@@ -1,5 +1,5 @@
 // What settling, delivering and closing do, once nothing speaks against it.
-// What a deed asks for stands at each: it holds once a call was judged, and a type for it would hold all of a settlement again.
+// What a deed asks for stands at each, here and in the other module: it holds once a call was judged, and a type for it would hold all four parts.
 ghost use Rattle.std.specs.Prelude.{Decides};
 ghost use Rattle.rules.specs.Asked.{settles, delivers, closes};
 ghost use Rattle.rules.specs.Standing.{Sized};
