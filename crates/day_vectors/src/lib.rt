@@ -1,5 +1,7 @@
-// A worked case of a day, run as a test.
+// Worked cases of a day, run as tests.
 #![tactic(auto)]
 
 #[cfg(test)]
 mod calls;
+#[cfg(test)]
+mod joined;

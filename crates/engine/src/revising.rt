@@ -54,8 +54,17 @@ pub fn revise_totals<S: Store, R: Report>(
     if !account.fits(periods) {
         return Err(Refusal::Sizes);
     }
-    for (i, row) in sources.rows.iter().enumerate() {
-        revise_meter(sources, account, periods, revision, period, i, *row);
+    // by number: over the records themselves, an edit that leaves one out was refused for its form alone
+    for i in 0..sources.rows.len() {
+        revise_meter(
+            sources,
+            account,
+            periods,
+            revision,
+            period,
+            i,
+            sources.rows[i],
+        );
     }
     Ok(())
 }

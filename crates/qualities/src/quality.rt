@@ -165,6 +165,7 @@ impl TryFrom<u8> for Quality {
 
     ghost try_from_gives = { ByNumber };
 
+    #[tactic(auto, using(crate::proofs::Same::by_number))]
     fn try_from(number: u8) -> Result<Quality, UnknownQuality> {
         QUALITIES
             .get(usize::from(number))

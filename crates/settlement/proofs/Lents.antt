@@ -15,6 +15,9 @@ lent_then i j k a b c d e f one two = record {
   rows = two.rows ∙ one.rows;
   factors = two.factors ∙ one.factors;
   shapes = two.shapes ∙ one.shapes;
+  rows_size = two.rows_size ∙ one.rows_size;
+  factors_size = two.factors_size ∙ one.factors_size;
+  shapes_size = two.shapes_size ∙ one.shapes_size;
   first = same_then _ _ _ one.first two.first;
   second = same_then _ _ _ one.second two.second;
 }

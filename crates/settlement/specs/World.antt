@@ -72,12 +72,15 @@ abbrev pub world_of : {X Q M R N : Type 0} → Day → Inputs X → Account Q M 
 world_of day inputs first second =
     world day inputs.store.now inputs.rows.now inputs.factors.now inputs.shapes.now first.totals.now second.totals.now
 
--- the reports are the same, and so is all memory that is lent, whatever is in it
+-- the reports are the same, and so are all memory that is lent and its length, whatever is in it
 pub record SameLent {X Q M R N : Type 0} (i : Inputs X) (a : Account Q M) (b : Account R N) (j : Inputs X) (c : Account Q M) (d : Account R N) : Type 0 where
   pub store : j.store.ghost_name ≡ i.store.ghost_name
   pub rows : j.rows.ghost_name ≡ i.rows.ghost_name
   pub factors : j.factors.ghost_name ≡ i.factors.ghost_name
   pub shapes : j.shapes.ghost_name ≡ i.shapes.ghost_name
+  pub rows_size : length j.rows.now ≡ length i.rows.now
+  pub factors_size : length j.factors.now ≡ length i.factors.now
+  pub shapes_size : length j.shapes.now ≡ length i.shapes.now
   pub first : SameAccount a c
   pub second : SameAccount b d
 

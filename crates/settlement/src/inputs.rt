@@ -1,4 +1,5 @@
 // What a day is worked out from, as it is handed over with a call.
+ghost use Rattle.std.specs.Prelude.{◌≡◌};
 ghost use Rattle.settlement.specs.World.{SameSources};
 
 use meters::row::MeterRow;
@@ -15,6 +16,23 @@ pub struct Inputs<'a, S> {
 }
 
 impl<'a, S> Inputs<'a, S> {
+    // Made of what is lent. A caller whose store itself holds loans makes its inputs so: by the fields they are beyond the check.
+    pub fn new(
+        store: &'a mut S,
+        rows: &'a mut [MeterRow],
+        factors: &'a mut [Option<u16>],
+        shapes: &'a mut [Option<u32>],
+    ) -> Inputs<'a, S>
+        ensures { (result.store ≡ store.entry) × (result.rows ≡ rows.entry) × (result.factors ≡ factors.entry) × (result.shapes ≡ shapes.entry) }
+    {
+        Inputs {
+            store,
+            rows,
+            factors,
+            shapes,
+        }
+    }
+
     // The same, to be read.
     pub fn sources(&self) -> Sources<'_, S>
         ensures { SameSources self.entry.now result }

@@ -4,13 +4,14 @@ ghost use Rattle.settlement.specs.World.{setting_of, world_of, SameLent};
 ghost use Rattle.settlement.specs.Steps.{Step};
 
 use crate::acts::{act_close, act_deliver, act_settle};
-use crate::changes::{act_amend, act_revise};
+use crate::changes::{act_amend, act_factor, act_shape};
 use crate::day::{Day, Outcome};
 use crate::inputs::Inputs;
 use crate::ruling::ruling;
 use market::refusal::Refusal;
 use readings::delivery::Delivery;
 use rules::call::Call;
+use rules::revision::Revision;
 use stores::store::Store;
 use totals::account::Account;
 use totals::report::Report;
@@ -34,9 +35,14 @@ pub fn perform<S: Store, Q: Report, R: Report>(
             reading,
         } => act_deliver(day, inputs, first, second, meter, period, reading),
         Call::Amend { meter, row } => act_amend(day, inputs, first, second, meter, row),
-        Call::Revise { period, revision } => act_revise(
-            day, inputs, first, second, period, revision,
-        ),
+        Call::Revise {
+            period,
+            revision: Revision::Factor { class, factor },
+        } => act_factor(day, inputs, first, second, class, period, factor),
+        Call::Revise {
+            period,
+            revision: Revision::Shape { class, shape },
+        } => act_shape(day, inputs, first, second, class, period, shape),
         Call::Close => act_close(day, inputs, first, second),
     };
     Ok(outcome)

@@ -1,5 +1,5 @@
 -- What becomes of a table where entries come and go.
-use Rattle.std.specs.Prelude.{◌≡◌, ℕ, cond, ◌⊎◌, ◌==◌, ◌≢◌}
+use Rattle.std.specs.Prelude.{◌≡◌, ℕ, cond, ◌==◌}
 use Rattle.amounts.specs.Laws.{Algebra}
 use Rattle.totals.specs.declared.totals.Totals.{Totals}
 use Rattle.totals.specs.declared.entry.Entry.{Entry}
@@ -12,15 +12,6 @@ pub record Shifted {M : Type 0} (a : Algebra M) (period : ℕ) (change : ℕ →
   pub same : SameTable before after
   pub totals : (p q : ℕ) → HasTotal before.periods before.places p q →
       total_in a.zero after p q ≡ cond (p == period) (change q (total_in a.zero before p q)) (total_in a.zero before p q)
-
--- each total of one period is made of the one before and of the part that comes to its place, or stays where that is nothing; no other
--- total changes
-pub record ShiftedBy {M : Type 0} (a : Algebra M) (makes : M → M → M → Type 0) (period : ℕ) (part : ℕ → M) (before after : Totals M) : Type 0 where
-  pub same : SameTable before after
-  pub here : (q : ℕ) → HasTotal before.periods before.places period q →
-      makes (total_in a.zero before period q) (part q) (total_in a.zero after period q)
-      ⊎ ((part q ≡ a.zero) × (total_in a.zero after period q ≡ total_in a.zero before period q))
-  pub elsewhere : (p q : ℕ) → HasTotal before.periods before.places p q → p ≢ period → total_in a.zero after p q ≡ total_in a.zero before p q
 
 -- what an entry brings is added to the totals of a period
 abbrev pub EntryAdded : {M : Type 0} → Algebra M → Rules M → ℕ → Entry → Totals M → Totals M → Type 0

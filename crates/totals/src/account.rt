@@ -11,6 +11,15 @@ pub struct Account<'a, R, M> {
     pub totals: &'a mut [M],
 }
 
+impl<'a, R, M> Account<'a, R, M> {
+    // Made of what is lent. A caller whose report itself holds loans makes its account so: by the fields it is beyond the check.
+    pub fn new(report: &'a R, totals: &'a mut [M]) -> Account<'a, R, M>
+        ensures { (result.report ≡ report.entry) × (result.totals ≡ totals.entry) }
+    {
+        Account { report, totals }
+    }
+}
+
 impl<'a, R: Report> Account<'a, R, R::Amount> {
     // Whether there is one amount for each period and place.
     pub fn fits(&self, periods: u8) -> bool
